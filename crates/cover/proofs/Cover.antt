@@ -16,7 +16,7 @@ use Rattle.sharing.specs.Calls.{apart}
 use Rattle.sharing.proofs.Sharing.{adds-le}
 use Rattle.sharing.proofs.Served.{length-serve, serve-adds, serve-under, transfer-rows}
 use Rattle.sharing.proofs.Asked.{Transferable}
-use Rattle.hour.specs.Hour.{portion, own, ownParts, table, got, rest}
+use Rattle.cover.specs.Cover.{portion, own, ownParts, table, got, rest}
 use borrow.Author.Tests.{eq-eqb}
 use lib.Dec.{eqb}
 

@@ -13,7 +13,7 @@ use Rattle.lists.proofs.Columns.{each, rowwise-append}
 use Rattle.lists.proofs.Sums.{sum-append, sum-zeros}
 use Rattle.sharing.specs.Laws.{Lawful}
 use Rattle.sharing.specs.Sharing.{Rule}
-use Rattle.hour.specs.Hour.{portion, Standing}
+use Rattle.cover.specs.Cover.{portion, Standing}
 use lib.ListN.{length, getD, take, drop, replicate, take-append-drop, length-take, length-drop, length-append, length-replicate, replicate-append-replicate}
 
 abbrev pub none : ℕ → List ℕ

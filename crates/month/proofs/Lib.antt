@@ -1,0 +1,2 @@
+-- The ledger adds up over the hours, and demand 3.
+pub mod Sums

@@ -2,7 +2,7 @@
 use Prim.Native.Nat.{ℕ, _≤_}
 use mathlib.Core.List.{List, [], _∷_, map}
 use Rattle.lists.specs.Lists.{sum}
-use Rattle.lists.specs.Columns.{_⊖_, _⊓_, joined, within, four, at, totals}
+use Rattle.lists.specs.Columns.{_⊕_, _⊖_, _⊓_, joined, within, four, at, totals}
 use Rattle.sharing.specs.Sharing.{Rule, serve, transfer}
 
 -- Rows stand by submarket 1 to 4, never falling, after one of submarket s
@@ -36,3 +36,6 @@ module _ (rule : Rule) (subs : List ℕ) where
     unfoldable pub rest : List ℕ
     rest = have ⊖ own ⊖ map sum table
 
+    -- what the plants have from submarket s: its own plants their own part, the others what they got from it
+    unfoldable pub supplied : ℕ → List ℕ
+    supplied s = within s subs ownParts ⊕ at s got []

@@ -9,6 +9,7 @@ use Rattle.lists.specs.Lists.{sum, sumℤ}
 use Rattle.lists.specs.Columns.{rowwise, _⊕_, four, column, byRow}
 use Rattle.lists.proofs.Columns.{_!_, getD-rowwise, length-rowwise, at-⊕, each}
 use Rattle.lists.proofs.Rows.{Even, column-at, column-byRow, length-byRow}
+use Rattle.signed.specs.Figures.{accountsOf}
 use Rattle.signed.proofs.Sums.{sub-self, sumℤ-sub}
 use Rattle.hour.specs.Hour.{Hour, covered, rights, figure, nets, allotment, accounts}
 use Rattle.hour.proofs.Hour.{Sound, row-sum, whole-sum, figure-sized, whole-sized}
@@ -39,15 +40,15 @@ module _ (h : Hour) (ok : Sound h) where
     even-accounts = (refl, (length-map (nets h) (λ z. z *ℤ pos tariff), tt))
 
     pub net-column : column 2 0 (accounts h tariff) ≡ nets h
-    unfolding accounts
+    unfolding accounts accountsOf
     net-column = column-byRow (pos 0) (length (nets h)) (nets h) (money ∷ []) even-accounts 0 (omega arith)
 
     pub money-column : column 2 1 (accounts h tariff) ≡ map (λ z. z *ℤ pos tariff) (nets h)
-    unfolding accounts
+    unfolding accounts accountsOf
     money-column = column-byRow (pos 0) (length (nets h)) (nets h) (money ∷ []) even-accounts 1 (omega arith)
 
     pub accounts-sized : length (accounts h tariff) ≡ 2 * length (h .plants)
-    unfolding accounts nets
+    unfolding accounts accountsOf nets
     accounts-sized =
         length-byRow (pos 0) (length (nets h)) (nets h) (money ∷ []) even-accounts
         ∙ ap (λ (n : ℕ). 2 * n) (length-rowwise subℕ 0 0 (h .metered) (covered h ⊕ rights h) ∙ (let a = whole-sized h ok in let b = ok .metered in omega arith))

@@ -3,9 +3,10 @@ use Prim.Native.Nat.{ℕ, _-_, _*_, _/_}
 use mathlib.Core.Bool.{cond}
 use mathlib.Core.List.{List, [], _∷_, map}
 use lib.Dec.{leb, eqb}
-use lib.IntN.{ℤ, pos, subℕ, _*ℤ_}
+use lib.IntN.{ℤ, subℕ}
 use Rattle.lists.specs.Columns.{rowwise, _⊕_, _⊖_, _⊓_, within, outside, four, at, totals, byRow}
 use Rattle.lists.specs.Lists.{sum}
+use Rattle.signed.specs.Figures.{accountsOf}
 use Rattle.sharing.specs.Sharing.{Rule, share}
 use Rattle.cover.specs.Cover.{ownParts, table, got, rest}
 use Rattle.hour.specs.declared.Plant.{Plant}
@@ -92,4 +93,4 @@ module _ (h : Hour) where
   allotment = byRow 0 (four figure)
 
   unfoldable pub accounts : ℕ → List ℤ
-  accounts tariff = byRow (pos 0) (nets ∷ map (λ z. z *ℤ pos tariff) nets ∷ [])
+  accounts tariff = accountsOf tariff nets

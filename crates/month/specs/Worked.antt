@@ -8,7 +8,7 @@ use lib.IntN.{ℤ, pos, negsuc}
 use Rattle.lists.specs.Lists.{sum, sumℤ, every, atMost}
 use Rattle.lists.specs.Columns.{rowwise, joined, totals, transpose, column}
 use Rattle.lists.specs.Questions.{_then_, firstNo, inRange, outcome}
-use Rattle.signed.specs.Figures.{isWithin}
+use Rattle.signed.specs.Figures.{isWithin, accountsOf}
 use Rattle.sharing.specs.Sharing.{parts, share, serve, transfer}
 use Rattle.sharing.specs.Calls.{noTable, apart, sharingNumber, sharingCall, transferNumber, transferCall}
 use Rattle.cover.specs.Cover.{portion, own, ownParts, table, got, rest}
@@ -67,7 +67,7 @@ pub record Worked : Type 0 where
   m8 : sharingCall 1 (0 ∷ []) (7 ∷ []) ≡ record { number = 25; parts = 7 ∷ [] }
 
 pub worked : Worked
-unfolding rowwise sum every atMost joined totals transpose flatten _then_ firstNo inRange outcome parts share serve transfer apart sharingNumber sharingCall transferNumber transferCall hourOf modulated guaranteed portion own ownParts table got rest submarkets guarantees secondary covered deficit surplus leftOver rights ownCover coverGot ownSecondary secondaryGot coverTable secondaryTable figure nets allotment accounts
+unfolding rowwise sum every atMost joined totals transpose flatten _then_ firstNo inRange outcome parts share serve transfer apart sharingNumber sharingCall transferNumber transferCall hourOf modulated guaranteed portion own ownParts table got rest submarkets guarantees secondary covered deficit surplus leftOver rights ownCover coverGot ownSecondary secondaryGot coverTable secondaryTable figure nets allotment accountsOf accounts
 worked =
     record {
       m1 = refl;
@@ -115,5 +115,5 @@ pub record Listed : Type 0 where
   month : after start calls .month ≡ record { stage = Closed; plants = 3; periods = 1; tariff = 1300; due = 2 }
 
 pub listed : Listed
-unfolding rowwise sum every atMost joined totals transpose flatten _then_ firstNo inRange outcome parts share serve transfer apart sharingNumber sharingCall transferNumber transferCall hourOf modulated guaranteed portion own ownParts table got rest submarkets guarantees secondary covered deficit surplus leftOver rights ownCover coverGot ownSecondary secondaryGot coverTable secondaryTable figure nets allotment accounts column sumℤ isWithin inBounds zeros added posted isOpen isBlank sizesNumber placed numbered rowNumber rowsNumber lengthsNumber tablesNumber openNumber ownNumber meteredNumber boundsNumber settleNumber closeNumber balanceNumber openCall settleCall balanceCall closeCall number next after entries
+unfolding rowwise sum every atMost joined totals transpose flatten _then_ firstNo inRange outcome parts share serve transfer apart sharingNumber sharingCall transferNumber transferCall hourOf modulated guaranteed portion own ownParts table got rest submarkets guarantees secondary covered deficit surplus leftOver rights ownCover coverGot ownSecondary secondaryGot coverTable secondaryTable figure nets allotment accountsOf accounts column sumℤ isWithin inBounds zeros added posted isOpen isBlank sizesNumber placed numbered rowNumber rowsNumber lengthsNumber tablesNumber openNumber ownNumber meteredNumber boundsNumber settleNumber closeNumber balanceNumber openCall settleCall balanceCall closeCall number next after entries
 listed = record { numbers = refl; allotted = refl; accounted = refl; settled = (refl, refl, refl, refl, refl); columns = refl; month = refl }

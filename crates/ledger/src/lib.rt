@@ -8,7 +8,7 @@ ghost use Rattle.lists.specs.Lists.{Within, atMost, every, sum, sumℤ};
 ghost use Rattle.lists.specs.Columns.{_⊕_, _⊕ℤ_, column, four};
 ghost use Rattle.signed.specs.Figures.{accountsOf, isWithin};
 ghost use Rattle.ledger.specs.Ledger.{Ledger, accountsWidth, added, allottedIn, allottedWidth, inBounds};
-ghost use Rattle.ledger.specs.Posting.{Near, Postable, Summable, hourFigures};
+ghost use Rattle.ledger.specs.Posting.{Addable, Near, Payable, Postable, Summable, hourFigures};
 
 // Figures a plant: its allotted kWh in submarkets 1 to 4; its net and its money.
 const ALLOTTED: usize = 4;
@@ -73,4 +73,63 @@ pub fn in_bounds(allotted: &[u64], accounts: &[i64]) -> bool
         return false;
     }
     column_within(MONEY_BOUND, MONEY, accounts)
+}
+
+// Is every figure at most a bound, with more added to each?
+fn at_most_after(bound: u64, figures: &[u64], more: &[u64]) -> bool
+    requires { ⌜ Addable (now figures) (now more) ⌝ }
+    ensures { λ r. ⌜ r ≡ atMost bound (now (figures .entry) ⊕ now (more .entry)) ⌝ }
+{
+    let mut i: usize = 0;
+    while i < figures.len() {
+        if bound < figures[i] + more[i] {
+            return false;
+        }
+        i += 1;
+    }
+    true
+}
+
+// Adds a list to another, figure by figure.
+fn add_figures(figures: &mut [u64], more: &[u64])
+    requires { ⌜ Addable (now figures) (now more) ⌝ }
+    ensures { λ _. ⌜ now (figures .exit) ≡ now (figures .entry) ⊕ now (more .entry) ⌝ }
+{
+    let mut i: usize = 0;
+    while i < more.len() {
+        figures[i] += more[i];
+        i += 1;
+    }
+}
+
+// Is every figure of the column that starts at `start` within a bound of zero, with each row's net added at a rate?
+fn column_within_after(bound: u64, start: usize, accounts: &[i64], nets: &[i64], rate: u64) -> bool
+    requires { ⌜ (bound < 2 ^ 63) × ((start < accountsWidth) × Payable (now accounts) (now nets) rate) ⌝ }
+    ensures { λ r. ⌜ r ≡ every (isWithin bound) (column accountsWidth start (now (accounts .entry)) ⊕ℤ map (λ z. z *ℤ pos rate) (now (nets .entry))) ⌝ }
+{
+    let mut i: usize = 0;
+    while i < nets.len() {
+        let more = signed::times(nets[i], rate);
+        let figure = signed::plus(accounts[ACCOUNTS * i + start], more);
+        if !signed::is_within(bound, figure) {
+            return false;
+        }
+        i += 1;
+    }
+    true
+}
+
+// Adds each row's net, and its money at the tariff, to the row's two accounts.
+fn add_accounts(accounts: &mut [i64], nets: &[i64], tariff: u64)
+    requires { ⌜ Payable (now accounts) (now nets) tariff ⌝ }
+    ensures { λ _. ⌜ now (accounts .exit) ≡ now (accounts .entry) ⊕ℤ accountsOf tariff (now (nets .entry)) ⌝ }
+{
+    let mut i: usize = 0;
+    while i < nets.len() {
+        let net = nets[i];
+        let money = signed::times(net, tariff);
+        signed::add_at(accounts, ACCOUNTS * i + NET, net);
+        signed::add_at(accounts, ACCOUNTS * i + MONEY, money);
+        i += 1;
+    }
 }

@@ -2,3 +2,4 @@
 pub mod Bounds
 pub mod Lists
 pub mod Posting
+pub mod Sums

@@ -1,0 +1,237 @@
+-- Loops over slices, one turn for each element.
+--   A loop that reads. Its invariant says what is left, for any function of the list that is left, as `s + sum (drop i l) ≡ sum l`.
+--     rest-more       a turn takes one element from what is left
+--     rest-none       at the end nothing is left
+--   A loop that fills out[0..n], one store a turn. Its invariant is `Filling n i out₀ all out rest`: with rest, which is still to be written,
+--   in the place of out[i..n], out is all.
+--     filling         where the loop begins
+--     filling-more    a turn that stores the first element of the rest
+--     filling-kept    what stands at i and behind has not been written yet
+--     filled          at the end
+--   A loop that stores f i at i, for any f. Its invariant is `Tabling f n i out₀ out`; the laws are tabling, tabling-more, tabled.
+--   A loop that puts a question to each row and stops at the first no: `Scanning f n i`; the laws are scanning, scanning-more, scanned, stopped.
+--   A loop that puts a test to each element and stops at the first that fails: `Passing p l i`; the laws are passing, passing-more, halted, passed.
+--   A loop that sums f i, for any f. Its invariant is `Summing f n i s`; the laws are summing, summing-more, summing-le, summed.
+-- Assumes nothing.
+use mathlib.Core.Path.{_≡_, refl, sym, ap, _∙_}
+use mathlib.Core.Bool.{Bool, true, false, _&&_}
+use mathlib.Core.List.{List, [], _∷_, _++_, append-assoc}
+use Prim.Native.Nat.{ℕ, zero, suc, _+_, _-_, _^_, _≤_, _<_, zero-le}
+use native.Mathlib.Nat.{le-antisymm, sub-zero, add-zero, zero-add}
+use native.Mathlib.Numerals.{add-one}
+use native.Mathlib.Omega.{arith}
+use lib.ListN.{length, take, drop, getD, set, replicate, length-set, drop-of-length-le, take-append-drop}
+use lib.Seq.{drop-cons, take-suc-set, drop-set-lt, drop-drop, getD-drop}
+use borrow.Author.Needs.{needs}
+use lib.Dec.{leb}
+use mir.Syntax.{w64}
+use mir.Val.{Fits}
+use borrow.Author.Tests.{le-leb, lt-leb}
+use Rattle.lists.specs.Lists.{sum, table, tableFrom, between, every}
+use Rattle.lists.specs.Questions.{_then_, firstNumber}
+use Rattle.lists.proofs.Questions.{then-yes, then-no}
+
+module _ {ℓ κ} {A : Type ℓ} {R : Type κ} (f : List A → R) where
+  pub rest-more : (l : List A) (i : ℕ) (d : A) → i < length l → f (drop i l) ≡ f (getD l i d ∷ drop (i + 1) l)
+  rest-more l i d h = rw (add-one, drop-cons l i d)
+
+  pub rest-none : (l : List A) (i : ℕ) → length l ≤ i → f (drop i l) ≡ f []
+  rest-none l i h = ap f (drop-of-length-le l h)
+
+at-drop {ℓ} : {A : Type ℓ} (l : List A) (i : ℕ) (d : A) → getD (drop i l) 0 d ≡ getD l i d
+at-drop l i d = getD-drop i l 0 d ∙ rw add-zero
+
+pub record Filling {ℓ} {A : Type ℓ} (n i : ℕ) (out₀ all out rest : List A) : Type ℓ where
+  pub turns : i ≤ n
+  pub room : n ≤ length out₀
+  pub same : length out ≡ length out₀
+  pub kept : drop i out ≡ drop i out₀
+  pub whole : between i n out rest ≡ all
+
+module _ {ℓ} {A : Type ℓ} {n : ℕ} {out₀ : List A} where
+  pub filling : {xs : List A} → n ≤ length out₀ → Filling n 0 out₀ (xs ++ drop n out₀) out₀ xs
+  filling h = record { turns = zero-le; room = h; same = refl; kept = refl; whole = refl }
+
+  -- the definition has u at i, and the code stores v
+  pub filling-more : {i : ℕ} {all out rest more : List A} {u v : A} → Filling n i out₀ all out rest → i < n → rest ≡ u ∷ more → u ≡ v
+      → Filling n (i + 1) out₀ all (set out i v) more
+  filling-more {i = i} {out = out} {v = v} k h e p =
+      let inside : i < length out = omega arith in
+      record {
+        turns = omega arith;
+        room = k .room;
+        same = length-set out i v ∙ k .same;
+        kept = drop-set-lt (i + 1) out i v (omega arith) ∙ sym (drop-drop 1 i out) ∙ ap (drop 1) (k .kept) ∙ drop-drop 1 i out₀;
+        whole = rw (add-one, take-suc-set out i v inside, drop-set-lt n out i v h, append-assoc) (rw (e, p) at (k .whole));
+      }
+
+  pub filling-kept : {i : ℕ} {all out rest : List A} → Filling n i out₀ all out rest → (d : A) → getD out i d ≡ getD out₀ i d
+  filling-kept {i = i} {out = out} k d = sym (at-drop out i d) ∙ ap (λ (l : List A). getD l 0 d) (k .kept) ∙ at-drop out₀ i d
+
+  pub filled : {i : ℕ} {all out rest : List A} → Filling n i out₀ all out rest → n ≤ i → rest ≡ [] → out ≡ all
+  filled {i = i} {out = out} k h e =
+      let at-end : n ≡ i = le-antisymm h (k .turns) in
+      sym (take-append-drop i out) ∙ (rw (e, at-end) at (k .whole))
+
+module _ {ℓ} {A : Type ℓ} (f : ℕ → A) where
+  pub table-more : (i n : ℕ) → i < n → tableFrom f i (n - i) ≡ f i ∷ tableFrom f (i + 1) (n - (i + 1))
+  table-more i n h =
+      let one-more : n - i ≡ suc (n - (i + 1)) = omega arith in
+      rw one-more
+
+  pub table-none : (i n : ℕ) → n ≤ i → tableFrom f i (n - i) ≡ []
+  table-none i n h =
+      let none : n - i ≡ 0 = omega arith in
+      rw none
+
+  abbrev pub Tabling : ℕ → ℕ → List A → List A → Type ℓ
+  Tabling n i out₀ out = Filling n i out₀ (table n f ++ drop n out₀) out (tableFrom f i (n - i))
+
+  pub tabling : (n : ℕ) (out₀ : List A) → n ≤ length out₀ → Tabling n 0 out₀ out₀
+  tabling n out₀ h = rw sub-zero (filling h)
+
+  pub tabling-more : {n i : ℕ} {out₀ out : List A} {v : A} → Tabling n i out₀ out → i < n → f i ≡ v → Tabling n (i + 1) out₀ (set out i v)
+  tabling-more {n} {i} k h p = filling-more k h (table-more i n h) p
+
+  pub tabled : {n i : ℕ} {out₀ out : List A} → Tabling n i out₀ out → n ≤ i → out ≡ table n f ++ drop n out₀
+  tabled {n} {i} k h = filled k h (table-none i n h)
+
+-- A loop that replaces each x at i by g i x, in place.
+pub record Updating {ℓ} {A : Type ℓ} (g : ℕ → A → A) (d : A) (n i : ℕ) (out₀ out : List A) : Type ℓ where
+  pub now : Tabling (λ (j : ℕ). g j (getD out₀ j d)) n i out₀ out
+
+module _ {ℓ} {A : Type ℓ} {g : ℕ → A → A} {d : A} {n : ℕ} {out₀ : List A} where
+  pub updating : n ≤ length out₀ → Updating g d n 0 out₀ out₀
+  updating h = record { now = tabling _ n out₀ h }
+
+  -- what stands at i is still what stood there
+  pub updating-kept : {i : ℕ} {out : List A} → Updating g d n i out₀ out → getD out i d ≡ getD out₀ i d
+  updating-kept k = filling-kept (k .now) d
+
+  pub updating-more : {i : ℕ} {out : List A} {v : A} → Updating g d n i out₀ out → i < n → v ≡ g i (getD out i d) → Updating g d n (i + 1) out₀ (set out i v)
+  updating-more {i} k h e = record { now = tabling-more _ (k .now) h (ap (g i) (sym (updating-kept k)) ∙ sym e) }
+
+  pub updated : {i : ℕ} {out : List A} → Updating g d n i out₀ out → n ≤ i → out ≡ table n (λ (j : ℕ). g j (getD out₀ j d)) ++ drop n out₀
+  updated k h = tabled _ (k .now) h
+
+-- A loop that sums f i, for any f, with s the sum of the first i.
+pub record Summing (f : ℕ → ℕ) (n i s : ℕ) : Type 0 where
+  pub turns : i ≤ n
+  pub whole : s + sum (tableFrom f i (n - i)) ≡ sum (table n f)
+
+one : (f : ℕ → ℕ) (i n : ℕ) → i < n → sum (tableFrom f i (n - i)) ≡ f i + sum (tableFrom f (i + 1) (n - (i + 1)))
+unfolding sum
+one f i n h = ap sum (table-more f i n h)
+
+module _ {f : ℕ → ℕ} {n : ℕ} where
+  pub summing : Summing f n 0 0
+  summing = record { turns = zero-le; whole = rw (zero-add, sub-zero) }
+
+  pub summing-more : {i s t : ℕ} → Summing f n i s → i < n → t ≡ s + f i → Summing f n (i + 1) t
+  summing-more {i} k h e = record { turns = omega arith; whole = omega (arith, one f i n h, k .whole) }
+
+  -- the sum with one more stays within the whole
+  pub summing-le : {i s : ℕ} → Summing f n i s → i < n → s + f i ≤ sum (table n f)
+  summing-le {i} k h = omega (arith, one f i n h, k .whole)
+
+  pub summed : {i s : ℕ} → Summing f n i s → n ≤ i → s ≡ sum (table n f)
+  unfolding sum
+  summed {i} k h = omega (arith, ap sum (table-none f i n h), k .whole)
+
+-- A loop that sums a list, with s the sum of the first i.
+pub record Adding (l : List ℕ) (i s : ℕ) : Type 0 where
+  pub turns : i ≤ length l
+  pub whole : s + sum (drop i l) ≡ sum l
+
+module _ {l : List ℕ} where
+  pub adding : Adding l 0 0
+  adding = record { turns = zero-le; whole = zero-add _ }
+
+  pub adding-more : {i s t : ℕ} → Adding l i s → i < length l → t ≡ s + getD l i 0 → Adding l (i + 1) t
+  unfolding sum
+  adding-more {i} k h e = record { turns = omega arith; whole = omega (arith, rest-more sum l i 0 h, k .whole) }
+
+  pub adding-le : {i s : ℕ} → Adding l i s → i < length l → s + getD l i 0 ≤ sum l
+  unfolding sum
+  adding-le {i} k h = omega (arith, rest-more sum l i 0 h, k .whole)
+
+  pub adding-fits : {i s B : ℕ} → Adding l i s → i < length l → sum l < B → B ≤ 2 ^ 64 → Fits w64 (s + getD l i 0)
+  adding-fits k h b w = record { fits = omega (arith, adding-le k h) }
+
+  pub added : {i s : ℕ} → Adding l i s → length l ≤ i → s ≡ sum l
+  unfolding sum
+  added {i} k h = omega (arith, rest-none sum l i h, k .whole)
+
+-- A loop that puts a question to each row in turn, and leaves at the first number above 0.
+pub record Scanning (f : ℕ → ℕ) (n i : ℕ) : Type 0 where
+  pub turns : i ≤ n
+  pub whole : firstNumber (table n f) ≡ firstNumber (tableFrom f i (n - i))
+
+first-is : (n : ℕ) (ns : List ℕ) → firstNumber (n ∷ ns) ≡ n then firstNumber ns
+unfolding firstNumber
+first-is n ns = refl
+
+first-nil : firstNumber [] ≡ 0
+unfolding firstNumber
+first-nil = refl
+
+module _ {f : ℕ → ℕ} {n : ℕ} where
+  pub scanning : Scanning f n 0
+  scanning = record { turns = zero-le; whole = rw sub-zero }
+
+  pub scanning-more : {i : ℕ} → Scanning f n i → i < n → f i ≡ 0 → Scanning f n (i + 1)
+  scanning-more {i} k h e = record { turns = omega arith; whole = k .whole ∙ ap firstNumber (table-more f i n h) ∙ first-is (f i) _ ∙ sym (then-yes _ _ _ (sym e) refl) }
+
+  pub scanned : {i : ℕ} → Scanning f n i → n ≤ i → 0 ≡ firstNumber (table n f)
+  scanned {i} k h = sym (k .whole ∙ ap firstNumber (table-none f i n h) ∙ first-nil)
+
+  pub stopped : {i v : ℕ} → Scanning f n i → i < n → v ≡ f i → (v ≡ 0 → ⊥) → v ≡ firstNumber (table n f)
+  stopped {i} k h e u = e ∙ sym (k .whole ∙ ap firstNumber (table-more f i n h) ∙ first-is (f i) _ ∙ sym (then-no _ _ _ refl (λ z. u (e ∙ z))))
+
+-- A loop that puts a test to each element, and leaves at the first that fails it.
+pub record Passing {A : Type 0} (p : A → Bool) (l : List A) (i : ℕ) : Type 0 where
+  pub turns : i ≤ length l
+  pub whole : every p l ≡ every p (drop i l)
+
+every-cons : {A : Type 0} (p : A → Bool) (x : A) (xs : List A) → every p (x ∷ xs) ≡ (p x && every p xs)
+unfolding every
+every-cons p x xs = refl
+
+every-nil : {A : Type 0} (p : A → Bool) → every p [] ≡ true
+unfolding every
+every-nil p = refl
+
+module _ {A : Type 0} {p : A → Bool} {l : List A} where
+  pub passing : Passing p l 0
+  passing = record { turns = zero-le; whole = refl }
+
+  turn : (i : ℕ) (d : A) → Passing p l i → i < length l → every p l ≡ (p (getD l i d) && every p (drop (i + 1) l))
+  turn i d k h = k .whole ∙ rest-more (every p) l i d h ∙ every-cons p (getD l i d) (drop (i + 1) l)
+
+  pub passing-more : {i : ℕ} (d : A) → Passing p l i → i < length l → p (getD l i d) ≡ true → Passing p l (i + 1)
+  passing-more {i} d k h e = record { turns = omega arith; whole = turn i d k h ∙ rw e }
+
+  pub halted : {i : ℕ} (d : A) → Passing p l i → i < length l → p (getD l i d) ≡ false → false ≡ every p l
+  halted {i} d k h e = sym (turn i d k h ∙ rw e)
+
+  pub passed : {i : ℕ} → Passing p l i → length l ≤ i → true ≡ every p l
+  passed {i} k h = sym (k .whole ∙ rest-none (every p) l i h ∙ every-nil p)
+
+-- ... of figures that must be at most n
+module _ {n : ℕ} {l : List ℕ} where
+  pub limit-more : {i : ℕ} → Passing (λ x. leb x n) l i → i < length l → getD l i 0 ≤ n → Passing (λ x. leb x n) l (i + 1)
+  limit-more k h e = passing-more 0 k h (le-leb _ n e)
+
+  pub limit-passed : {i : ℕ} → Passing (λ x. leb x n) l i → i < length l → n < getD l i 0 → false ≡ every (λ x. leb x n) l
+  limit-passed k h e = halted 0 k h (lt-leb _ n e)
+
+-- A table of one value.
+pub table-constant {ℓ} : {A : Type ℓ} (n : ℕ) (v : A) → table n (λ _. v) ≡ replicate n v
+table-constant n v = go n 0
+  where
+    go : (n i : ℕ) → tableFrom (λ _. v) i n ≡ replicate n v
+    go zero i = refl
+    go (suc n) i = ap (λ l. v ∷ l) (go n (i + 1))
+
+-- For `search loops` at the needs of a loop.
+pub ruleset loops = (filling, tabling, tabling-more, tabled, updating, updating-more, updated, summing, summing-more, summed, adding, adding-more, adding-fits, added, scanning, scanning-more, scanned, stopped, passing, passed, limit-more, limit-passed, needs)

@@ -1,0 +1,4 @@
+-- Definitions on lists of figures.
+pub mod Lists
+pub mod Questions
+pub mod Columns

@@ -69,6 +69,22 @@ extern "C" {
  *   31  the line is in turn, has its end byte 10, and the file neither ends early nor goes on after the last G line
  */
 
+/* One figure for each of submarkets 1 to 4, in that order. */
+typedef struct {
+    uint64_t kwh[4];
+} iolwarch_by_submarket;
+
+/* A transfer table, giver by receiver: rows[g][r] is what submarket g + 1 gives to submarket r + 1. */
+typedef struct {
+    uint64_t rows[4][4];
+} iolwarch_table;
+
+/* The answer of the transfer step. */
+typedef struct {
+    uint64_t number;
+    iolwarch_table table;
+} iolwarch_transferred;
+
 /* Shares a total over weights: the i-th part is floor(total x Ci / W) - floor(total x C(i-1) / W), where Ci is the sum
  * of the first i weights and W of all. The parts add up to the total; when the total is at most W, no part exceeds
  * its weight. A total of 0 gives zeros.
@@ -80,6 +96,16 @@ extern "C" {
 uint64_t iolwarch_share(uint64_t total,
                         const uint64_t *weights, size_t weights_length,
                         uint64_t *parts, size_t parts_length);
+
+/* The transfer step: needy submarkets are served in order 1 to 4, each one's need shared over what the four still
+ * have left, which then falls. Each receiver's column of the table adds up to its need, no giver's row passes what it
+ * had left, and no submarket gives to itself.
+ *
+ * Takes    what each submarket has left, and what each needs, both by value.
+ * Answers  0 and the table, or 23 and zeros.
+ * Leaves   nothing changed: it has no list.
+ */
+iolwarch_transferred iolwarch_transfer(iolwarch_by_submarket left, iolwarch_by_submarket need);
 
 #ifdef __cplusplus
 }

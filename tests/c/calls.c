@@ -18,6 +18,7 @@ static void check(int good, const char *what)
 }
 
 #define LIMIT (UINT64_C(1) << 62)
+#define HOUR UINT64_C(2000000000)
 #define MOST 4
 
 /* One sharing: the lent list begins with 901, 902, .. and has one more figure behind it, which must stay. */
@@ -58,9 +59,39 @@ static void sharing(void)
     share("T at 2^62", LIMIT, three, 2, 2, 24, NULL);
 }
 
+static void transfer(const char *what, iolwarch_by_submarket left, iolwarch_by_submarket need, iolwarch_transferred wanted)
+{
+    iolwarch_transferred answer = iolwarch_transfer(left, need);
+    check(answer.number == wanted.number, what);
+    check(memcmp(&answer.table, &wanted.table, sizeof answer.table) == 0, what);
+}
+
+static void transfers(void)
+{
+    const iolwarch_by_submarket zero = {{0, 0, 0, 0}};
+    const iolwarch_transferred nothing = {0, {{{0}}}};
+    const iolwarch_transferred refused = {23, {{{0}}}};
+    transfer("m6", (iolwarch_by_submarket){{1, 1, 0, 0}}, (iolwarch_by_submarket){{0, 0, 1, 1}},
+             (iolwarch_transferred){0, {{{0, 0, 0, 1}, {0, 0, 1, 0}, {0}, {0}}}});
+    transfer("two givers, the second left with the rest", (iolwarch_by_submarket){{3, 9, 0, 0}},
+             (iolwarch_by_submarket){{0, 0, 10, 2}},
+             (iolwarch_transferred){0, {{{0, 0, 2, 1}, {0, 0, 8, 1}, {0}, {0}}}});
+    transfer("nothing to send", zero, zero, nothing);
+    transfer("left at its limit", (iolwarch_by_submarket){{HOUR, 0, 0, 0}}, (iolwarch_by_submarket){{0, HOUR, 0, 0}},
+             (iolwarch_transferred){0, {{{0, HOUR, 0, 0}, {0}, {0}, {0}}}});
+    transfer("left past its limit", (iolwarch_by_submarket){{HOUR + 1, 0, 0, 0}}, zero, refused);
+    transfer("need past its limit", (iolwarch_by_submarket){{HOUR, HOUR, 0, 0}},
+             (iolwarch_by_submarket){{0, 0, HOUR + 1, 0}}, refused);
+    transfer("one more needed than left", (iolwarch_by_submarket){{1, 1, 0, 0}},
+             (iolwarch_by_submarket){{0, 0, 2, 1}}, refused);
+    transfer("a submarket with both", (iolwarch_by_submarket){{5, 1, 0, 0}}, (iolwarch_by_submarket){{0, 1, 0, 0}},
+             refused);
+}
+
 int main(void)
 {
     sharing();
+    transfers();
     printf("%lu passed, %lu failed\n", passed, failed);
     return failed == 0 && passed > 0 ? 0 : 1;
 }

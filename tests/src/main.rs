@@ -9,11 +9,13 @@
 mod count;
 mod random;
 mod recorder;
+mod script;
 mod share;
+mod transfer;
 
 type Part = (&'static str, fn(&mut count::Count));
 
-const PARTS: [Part; 1] = [("share", share::run)];
+const PARTS: [Part; 3] = [("share", share::run), ("transfer", transfer::run), ("scripts", script::run)];
 
 fn main() {
     let asked: Vec<String> = std::env::args().skip(1).collect();

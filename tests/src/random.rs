@@ -39,4 +39,8 @@ impl Random {
             n => self.next() >> (64 - n),
         }
     }
+
+    pub fn pick<T: Copy>(&mut self, list: &[T]) -> T {
+        list[self.between(0, list.len() as u64 - 1) as usize]
+    }
 }

@@ -11,15 +11,15 @@ use Rattle.wide.proofs.after_32.Tie as tie
 
 suits : (w cut : ℕ) → cut ≤ 30 → 2 ^ 31 * 2 ^ cut ≤ w → w < 2 ^ 32 * 2 ^ cut → w < 2 ^ 62 → Suits w 31 cut
 suits w cut small least below bound =
-    let radix : 2 ^ (31 - cut) * 2 ^ cut ≡ 2 ^ 31 = sym (pow-add 2 (31 - cut) cut) ∙ ap (λ (x : ℕ). 2 ^ x) (sub-add-cancel {n = 31} {m = cut} (omega arith)) in
+    let head : 2 ^ 31 ≤ w / 2 ^ cut = le-div-iff-mul-le {k = 2 ^ cut} {x = 2 ^ 31} {y = w} (pow-pos cut) .1 least in
     record {
       enough = omega arith;
       short = omega arith;
       within = omega arith;
       bound = bound;
-      room = omega (arith, mul-le-mul-right (2 ^ (31 - cut)) below);
+      room = omega arith;
       head = omega arith;
-      tail = omega (arith, mul-le-mul-left (2 ^ (31 - cut)) (mod-lt w (pow-pos cut)), le-div-iff-mul-le {k = 2 ^ cut} {x = 2 ^ 31} {y = w} (pow-pos cut) .1 least);
+      tail = omega (arith, mod-lt w (pow-pos cut), mul-le-mul-right (2 ^ cut) head);
     }
 
 -- of two powers of 2 the larger has the larger exponent

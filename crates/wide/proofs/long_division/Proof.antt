@@ -10,7 +10,7 @@ use Rattle.wide.proofs.long_division.Tie as tie
 
 three : (t bits : ℕ) → t < 2 ^ 64 → 22 ≤ bits → t / 2 ^ bits / 2 ^ bits / 2 ^ bits ≡ 0
 three t bits small enough =
-    rw (shr-shr, shr-shr) (div-eq-of-lt (lt-of-lt-of-le small (pow-mono {i = 64} {j = bits + (bits + bits)} (omega arith))))
+    rw (shr-shr (t / 2 ^ bits) bits bits, shr-shr t bits (bits + bits)) (div-eq-of-lt (lt-of-lt-of-le small (pow-mono {i = 64} {j = bits + (bits + bits)} (omega arith))))
 
 next-digit-requires : tie.Need-next-digit-requires
 next-digit-requires c κs =

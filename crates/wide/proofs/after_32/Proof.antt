@@ -1,7 +1,7 @@
--- `wide::after_32` meets its contract: w has its first bit at j, so that cut is j - 31. Assumes nothing.
-use mathlib.Core.Path.{_≡_, sym, ap, _∙_, subst}
-use Prim.Native.Nat.{ℕ, suc, _+_, _-_, _*_, _/_, _%_, _^_, _≤_, _<_}
-use native.Mathlib.Nat.{mod-lt, mul-le-mul-left, mul-le-mul-right, le-div-iff-mul-le, sub-add-cancel, not-le-of-lt, lt-of-not-le}
+-- `wide::after_32` meets its contract: the first bit of w is bit j, between 32 and 61, and the answer is j - 31. Assumes nothing.
+use mathlib.Core.Path.{ap, _∙_, subst}
+use Prim.Native.Nat.{ℕ, suc, _-_, _*_, _/_, _^_, _≤_, _<_}
+use native.Mathlib.Nat.{mod-lt, mul-le-mul-right, le-div-iff-mul-le, not-le-of-lt, lt-of-not-le}
 use native.Mathlib.Omega.{arith}
 use lib.Pow.{pow-pos, pow-add, pow-mono}
 use lib.Count.{leadingZeros, leading-top}
@@ -9,6 +9,7 @@ use Rattle.wide.specs.Digits.{Suits}
 use Rattle.wide.proofs.after_32.Statement.{statement}
 use Rattle.wide.proofs.after_32.Tie as tie
 
+-- a divisor with 32 bits before those that are cut off
 suits : (w cut : ℕ) → cut ≤ 30 → 2 ^ 31 * 2 ^ cut ≤ w → w < 2 ^ 32 * 2 ^ cut → w < 2 ^ 62 → Suits w 31 cut
 suits w cut small least below bound =
     let head : 2 ^ 31 ≤ w / 2 ^ cut = le-div-iff-mul-le {k = 2 ^ cut} {x = 2 ^ 31} {y = w} (pow-pos cut) .1 least in
@@ -39,4 +40,4 @@ at c =
     (few, suits w (32 - zeros) (omega (arith, top .1)) least below (c .pre .1))
 
 pub after-32-spec : {M : Type 1} → statement M
-after-32-spec = tie.close (tie.spec (λ c. at c .0) (λ c. at c .1))
+after-32-spec = tie.close (tie.spec (λ c. omega (arith, at c .0)) (λ c. at c .1))

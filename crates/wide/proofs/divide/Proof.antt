@@ -8,6 +8,7 @@ use Rattle.wide.proofs.Guess.{Guess, guess, Back, back}
 use Rattle.wide.proofs.divide.Statement.{statement}
 use Rattle.wide.proofs.divide.Tie as tie
 
+-- the law of the guess, before and after the program has its numbers
 early : (c : tie.After-upper) → Guess (c .before .args .high) (c .before .args .low) (c .before .args .w) (2 ^ c .before .args .cut) (c .upper .result)
     (c .before .args .high % c .upper .result * 2 ^ c .before .args .cut) (c .before .args .w % 2 ^ c .before .args .cut)
 early c =
@@ -52,7 +53,7 @@ add-more : tie.Need-add-more
 add-more c = let k = known (c .before) in record { fits = omega arith }
 
 sub-t14 : tie.Need-sub-t14
-sub-t14 c = let k = known (c .before .before) in by (c .before .before) 1 _ (omega arith) (c .if2 .taken) (omega arith) .within
+sub-t14 c = let k = known (c .before .before) in let b = by (c .before .before) 1 _ (omega arith) (c .if2 .taken) (omega arith) in omega (arith, b .within)
 
 returns-2 : tie.Need-returns-2
 returns-2 c = let k = known (c .before .before) in by (c .before .before) 1 _ (omega arith) (c .if2 .taken) (omega arith) .divided
@@ -64,7 +65,7 @@ enough : tie.Need-sub-t16
 enough c = let k = known (c .before .before) in omega arith
 
 sub-t11 : tie.Need-sub-t11
-sub-t11 c = let k = known (c .before .before) in by (c .before .before) 2 _ (omega arith) (enough c) (omega arith) .within
+sub-t11 c = let k = known (c .before .before) in let b = by (c .before .before) 2 _ (omega arith) (enough c) (omega arith) in omega (arith, b .within)
 
 returns-3 : tie.Need-returns-3
 returns-3 c = let k = known (c .before .before) in by (c .before .before) 2 _ (omega arith) (enough c) (omega arith) .divided

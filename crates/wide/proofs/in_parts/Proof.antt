@@ -1,6 +1,6 @@
 -- `wide::in_parts` meets its contract: c, and then the product with its last bits, are cut at 2 ^ cut. Assumes nothing.
 use mathlib.Core.Path.{_≡_, sym, ap, _∙_}
-use Prim.Native.Nat.{ℕ, _+_, _-_, _*_, _/_, _%_, _^_, _≤_, _<_}
+use Prim.Native.Nat.{ℕ, _+_, _-_, _*_, _/_, _%_, _^_, _<_}
 use native.Mathlib.Nat.{div-add-mod', mod-lt, mul-le-mul-left, lt-of-mul-lt-mul-right, sub-add-cancel}
 use native.Mathlib.Omega.{arith}
 use lib.Pow.{pow-pos, pow-add}

@@ -1,6 +1,6 @@
 -- `wide::lower` meets its contract: the last bits are what x has above its upper bits. Assumes nothing.
 use mathlib.Core.Path.{_≡_, sym, ap, _∙_}
-use Prim.Native.Nat.{ℕ, _-_, _*_, _/_, _^_}
+use Prim.Native.Nat.{ℕ, _*_, _/_, _^_}
 use native.Mathlib.Nat.{div-mul-le-self, mod-eq-sub-div-mul}
 use native.Mathlib.Omega.{arith}
 use borrow.Author.Needs.{needs}

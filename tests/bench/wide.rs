@@ -72,21 +72,20 @@ fn time(call: Call, figures: &[Figures], chained: bool) -> f64 {
     let mask = if chained { 1 } else { 0 };
     let (mut last, mut sum) = (0, 0u64);
     let start = Instant::now();
-    for _ in 0..20 {
-        for &(t, c, w) in figures {
-            last = unsafe { call(t ^ (last & mask), c, w) };
-            sum = sum.wrapping_add(last);
-        }
+    for &(t, c, w) in figures {
+        last = unsafe { call(t ^ (last & mask), c, w) };
+        sum = sum.wrapping_add(last);
     }
     black_box(sum);
-    start.elapsed().as_nanos() as f64 / (20 * figures.len()) as f64
+    start.elapsed().as_nanos() as f64 / figures.len() as f64
 }
 
 fn main() {
     println!("{} results agree", compare());
     for (t_bits, w_bits) in [(31, 31), (40, 41), (31, 49), (62, 41), (62, 49), (62, 62)] {
         let mut random = Random(88172645463325252);
-        let figures: Vec<Figures> = (0..4096)
+        // so many that the processor cannot learn which way each goes
+        let figures: Vec<Figures> = (0..100_000)
             .map(|_| {
                 let w = random.of_bits(w_bits) | 1 << (w_bits - 1);
                 (random.of_bits(t_bits), random.next() % (w + 1), w)
@@ -94,7 +93,7 @@ fn main() {
             .collect();
         // the best of many rounds, in which the two take turns
         let mut best = [[f64::MAX; 2]; 2];
-        for _ in 0..60 {
+        for _ in 0..100 {
             for (chained, best) in best.iter_mut().enumerate() {
                 for (which, call) in [bench_mul_div as Call, with_u128 as Call].into_iter().enumerate() {
                     best[which] = best[which].min(time(call, &figures, chained == 1));

@@ -34,17 +34,18 @@ few high low w radix cut pos below tail =
     le-of-mul-le-mul-right {m = high * (w % cut)} {n = 2 * w * (w / cut)} {k = cut}
     (omega (arith, mul-le-mul-right (w % cut) below, mul-le-mul-left (2 * w) tail)) pos
 
--- A guess that is too large by k, for every k: k less is the quotient, and what is there with k times w more, less the need, is the remainder.
-pub record Back (n need guess w k more : ℕ) : Type 0 where
+-- A guess that is too large by k, for every k: k less is the quotient, and k times w more, without the need, is the remainder.
+pub record Back (n need guess have w k : ℕ) : Type 0 where
   pub within : k ≤ guess
-  pub divided : (guess - k ≡ n / w) × (more - need ≡ n % w)
+  pub divided : (guess - k ≡ n / w) × (have + k * w - need ≡ n % w)
 
-pub back : (n need guess have w k more : ℕ) → n + need ≡ guess * w + have → more ≡ have + k * w → need ≤ more → more < need + w
-    → Back n need guess w k more
-back n need guess have w k more whole is-more enough least =
-    let below : more - need < w = omega arith in
+pub back : (n need guess have w k : ℕ) → n + need ≡ guess * w + have → need ≤ have + k * w → have + k * w < need + w
+    → Back n need guess have w k
+back n need guess have w k whole enough least =
+    let rest : ℕ = have + k * w - need in
+    let below : rest < w = omega arith in
     let within : k ≤ guess = omega (arith, lt-of-mul-lt-mul-right w {m = k} {n = guess + 1} (omega arith)) in
-    let is : n ≡ (guess - k) * w + (more - need) = omega (arith, ap (λ (x : ℕ). x * w) (sub-add-cancel {n = guess} {m = k} within)) in
+    let is : n ≡ (guess - k) * w + rest = omega (arith, ap (λ (x : ℕ). x * w) (sub-add-cancel {n = guess} {m = k} within)) in
     record {
       within = within;
       divided = (rw is (sym (digits-div (guess - k) below)), rw is (sym (digits-mod (guess - k) below)));

@@ -1,2 +1,2 @@
 -- What the contracts of wide cite.
-pub mod Digits
+pub mod Head

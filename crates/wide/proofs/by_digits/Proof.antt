@@ -3,8 +3,8 @@ use borrow.Author.Needs.{needs}
 use Rattle.wide.proofs.by_digits.Statement.{statement}
 use Rattle.wide.proofs.by_digits.Tie as tie
 
-long-division-requires : tie.Need-long-division-requires
-long-division-requires c κs = search needs
+narrow-requires : tie.Need-narrow-requires
+narrow-requires c κs = search needs
 
 pub by-digits-spec : {M : Type 1} → statement M
-by-digits-spec = tie.close (tie.spec long-division-requires (λ c. search needs) (λ c. search needs) (λ c. search needs) (λ c. search needs))
+by-digits-spec = tie.close (tie.spec narrow-requires (λ c. search needs) (λ c. search needs) (λ c. search needs) (λ c. search needs))

@@ -1,6 +1,6 @@
--- `wide::divide` meets its contract: each return is the law of a guess too large by k, for 0, 1 and 2. Assumes nothing.
-use mathlib.Core.Path.{_≡_, refl}
-use Prim.Native.Nat.{ℕ, _+_, _*_, _/_, _%_, _^_, _≤_, _<_}
+-- `wide::divide` meets its contract: by the law of the guess, and that of going back by what is lacking. Assumes nothing.
+use mathlib.Core.Path.{refl}
+use Prim.Native.Nat.{_+_, _*_, _/_, _%_, _^_}
 use native.Mathlib.Omega.{arith}
 use lib.Pow.{pow-pos}
 use borrow.Author.Needs.{needs}
@@ -25,12 +25,6 @@ known c =
     guess (a .high) (a .low) (a .w) (2 ^ a .cut) (c .before .before .upper .result) (c .before .raised .result) (c .lower .result)
     (pow-pos (a .cut)) (p .0 .1) (p .1 .0) (p .1 .1) (c .before .before .upper .ensures) (c .before .raised .ensures) (c .lower .ensures)
 
--- the law of going back by k, at the program's numbers
-by : (c : tie.After-lower) (k more : ℕ) → let a = c .before .before .before .args in let need = a .high / c .before .before .upper .result * c .lower .result in
-    more ≡ c .before .raised .result + a .low + k * a .w → need ≤ more → more < need + a .w
-    → Back (a .high * 2 ^ a .cut + a .low) need (a .high / c .before .before .upper .result) (a .w) k more
-by c k more = let a = c .before .before .before .args in back _ _ _ (c .before .raised .result + a .low) _ k more (known c .whole)
-
 div-guess : tie.Need-div-guess
 div-guess c = early c .positive
 
@@ -43,34 +37,23 @@ add-have c = let k = early (c .before) in record { fits = omega (arith, c .raise
 mul-need : tie.Need-mul-need
 mul-need c = let k = known c in record { fits = omega arith }
 
-returns : tie.Need-returns
-returns c =
-    let k = known (c .before) in
-    let b = by (c .before) 0 _ (omega arith) (c .if1 .taken) (omega arith) .divided in
-    (omega (arith, b .0), b .1)
+lacking-requires : tie.Need-lacking-requires
+lacking-requires c κs = let k = known c in (k .below, k .little, c .before .before .before .pre .0 .2)
 
-add-more : tie.Need-add-more
-add-more c = let k = known (c .before) in record { fits = omega arith }
-
-sub-t14 : tie.Need-sub-t14
-sub-t14 c = let k = known (c .before .before) in let b = by (c .before .before) 1 _ (omega arith) (c .if2 .taken) (omega arith) in omega (arith, b .within)
-
-returns-2 : tie.Need-returns-2
-returns-2 c = let k = known (c .before .before) in by (c .before .before) 1 _ (omega arith) (c .if2 .taken) (omega arith) .divided
-
-add-t10 : tie.Need-add-t10
-add-t10 c = let k = known (c .before .before) in record { fits = omega arith }
-
-enough : tie.Need-sub-t16
-enough c = let k = known (c .before .before) in omega arith
+known-back : (c : tie.After-lacking) → let l = c .before in let a = l .before .before .before .args in let g = a .high / l .before .before .upper .result in
+    Back (a .high * 2 ^ a .cut + a .low) (g * l .lower .result) g (l .before .raised .result + a .low) (a .w) (c .lacking .result)
+known-back c = back _ _ _ _ _ (c .lacking .result) (known (c .before) .whole) (c .lacking .ensures .1) (c .lacking .ensures .2)
 
 sub-t11 : tie.Need-sub-t11
-sub-t11 c = let k = known (c .before .before) in let b = by (c .before .before) 2 _ (omega arith) (enough c) (omega arith) in omega (arith, b .within)
+sub-t11 c = known-back c .within
 
-returns-3 : tie.Need-returns-3
-returns-3 c = let k = known (c .before .before) in by (c .before .before) 2 _ (omega arith) (enough c) (omega arith) .divided
+mul-t10 : tie.Need-mul-t10
+mul-t10 c = let k = known (c .before) in record { fits = omega (arith, c .lacking .ensures .2) }
+
+add-t12 : tie.Need-add-t12
+add-t12 c = let k = known (c .before) in record { fits = omega (arith, c .lacking .ensures .2) }
 
 pub divide-spec : {M : Type 1} → statement M
 divide-spec =
     tie.close
-    (tie.spec (λ c. search needs) div-guess div-guess raised-requires add-have (λ c. search needs) mul-need returns add-more sub-t14 returns-2 sub-t11 add-t10 enough returns-3)
+    (tie.spec (λ c. search needs) div-guess div-guess raised-requires add-have (λ c. search needs) mul-need lacking-requires sub-t11 mul-t10 add-t12 (λ c. c .lacking .ensures .1) (λ c. known-back c .divided))

@@ -28,13 +28,13 @@ cut-at r d c radix lift cut is-radix pos digit below =
       whole = whole;
     }
 
-known : (c : tie.Start) → let a = c .args in Cut (a .rest) (a .digit) (a .c) (2 ^ a .bits) (2 ^ (a .bits - a .cut)) (2 ^ a .cut)
+known : (c : tie.Start) → let a = c .args in Cut (a .rest) (a .digit) (a .c) (2 ^ 31) (2 ^ (31 - a .cut)) (2 ^ a .cut)
 known c =
     let a = c .args in
     let p = c .pre in
-    let radix : 2 ^ (a .bits - a .cut) * 2 ^ a .cut ≡ 2 ^ a .bits
-    = sym (pow-add 2 (a .bits - a .cut) (a .cut)) ∙ ap (λ (x : ℕ). 2 ^ x) (sub-add-cancel {n = a .bits} {m = a .cut} (p .0 .1)) in
-    cut-at (a .rest) (a .digit) (a .c) (2 ^ a .bits) (2 ^ (a .bits - a .cut)) (2 ^ a .cut) radix (pow-pos (a .cut)) (p .0 .2) (p .1)
+    let radix : 2 ^ (31 - a .cut) * 2 ^ a .cut ≡ 2 ^ 31
+    = sym (pow-add 2 (31 - a .cut) (a .cut)) ∙ ap (λ (x : ℕ). 2 ^ x) (sub-add-cancel {n = 31} {m = a .cut} (p .0)) in
+    cut-at (a .rest) (a .digit) (a .c) (2 ^ 31) (2 ^ (31 - a .cut)) (2 ^ a .cut) radix (pow-pos (a .cut)) (p .1) (p .2)
 
 mul-low : tie.Need-mul-low
 mul-low c = record { fits = rw (c .lower .ensures) (known (c .before) .low) }
@@ -43,21 +43,21 @@ raised-requires : tie.Need-raised-requires
 unfolding main
 raised-requires c κs = let k = known (c .before) in (omega arith, omega arith)
 
-mul-t10 : tie.Need-mul-t10
+mul-t9 : tie.Need-mul-t9
 unfolding main
-mul-t10 c = let k = known (c .before .before .before) in record { fits = rw (c .upper .ensures) (omega arith) }
+mul-t9 c = let k = known (c .before .before .before) in record { fits = rw (c .upper .ensures) (omega arith) }
 
-add-t11 : tie.Need-add-t11
+add-t10 : tie.Need-add-t10
 unfolding main
-add-t11 c = let k = known (c .before .before .before) in record { fits = rw (c .before .raised .ensures, c .upper .ensures) (omega arith) }
+add-t10 c = let k = known (c .before .before .before) in record { fits = rw (c .before .raised .ensures, c .upper .ensures) (omega arith) }
 
 is-main : (c : tie.After-upper2) → let a = c .before .before .before .before .args in
-    c .before .before .raised .result + a .digit * c .before .upper .result + c .upper2 .result ≡ main (a .rest) (a .digit) (a .c) (2 ^ (a .bits - a .cut)) (2 ^ a .cut)
+    c .before .before .raised .result + a .digit * c .before .upper .result + c .upper2 .result ≡ main (a .rest) (a .digit) (a .c) (2 ^ (31 - a .cut)) (2 ^ a .cut)
 unfolding main
 is-main c = rw (c .upper2 .ensures, c .before .before .raised .ensures, c .before .upper .ensures, c .before .before .before .lower .ensures)
 
-add-t13 : tie.Need-add-t13
-add-t13 c = record { fits = rw (is-main c) (known (c .before .before .before .before) .fits) }
+add-t12 : tie.Need-add-t12
+add-t12 c = record { fits = rw (is-main c) (known (c .before .before .before .before) .fits) }
 
 returns : tie.Need-returns
 returns c =
@@ -75,9 +75,9 @@ in-parts-spec =
     (λ c. search needs)
     raised-requires
     (λ c. search needs)
-    mul-t10
-    add-t11
+    mul-t9
+    add-t10
     (λ c. search needs)
-    add-t13
+    add-t12
     (λ c. search needs)
     returns)

@@ -1,0 +1,41 @@
+-- Figures as text: document 01, 'The file and its statement'. Bytes are numbers; the digits `0` to `9` are 48 to 57. Assumes nothing.
+use Prim.Native.Nat.{ℕ, zero, suc, _+_, _*_, _-_, _/_, _%_}
+use mathlib.Core.Bool.{cond}
+use mathlib.Core.List.{List, [], _∷_, _++_}
+use lib.Dec.{ltb}
+use lib.IntN.{ℤ, pos, negsuc}
+use lib.ListN.{length}
+use Rattle.lists.specs.Lists.{between}
+
+-- the digits of x, most significant first, without leading zeros; x is below 10 to the k
+unfoldable pub digits : ℕ → ℕ → List ℕ
+digits zero x = []
+digits (suc k) x = cond (ltb x 10) ((48 + x) ∷ []) (digits k (x / 10) ++ ((48 + x % 10) ∷ []))
+
+-- "Figures are written shortest": the shortest decimal of x
+unfoldable pub figure : ℕ → List ℕ
+figure x = digits (suc x) x
+
+-- "a minus before one below zero"; the minus is 45
+unfoldable pub signedFigure : ℤ → List ℕ
+signedFigure (pos n) = figure n
+signedFigure (negsuc n) = 45 ∷ figure (suc n)
+
+-- how many bytes a figure takes
+unfoldable pub figureLength : ℕ → ℕ
+figureLength x = length (figure x)
+
+unfoldable pub signedFigureLength : ℤ → ℕ
+signedFigureLength z = length (signedFigure z)
+
+-- the number that a list of digits is the decimal of, after digits that make v
+unfoldable pub valueFrom : ℕ → List ℕ → ℕ
+valueFrom v [] = v
+valueFrom v (b ∷ bs) = valueFrom (10 * v + (b - 48)) bs
+
+unfoldable pub value : List ℕ → ℕ
+value bs = valueFrom 0 bs
+
+-- the text, with bytes in their place from a position on; what stands before and behind them stays
+unfoldable pub written : List ℕ → ℕ → List ℕ → List ℕ
+written text at bytes = between at (at + length bytes) text bytes

@@ -1,0 +1,2 @@
+-- Lines of text: figures written and read, fields, the reader of a line.
+pub mod Figures

@@ -1,0 +1,2 @@
+// Lines of text, byte for byte: figures written and read, fields, and the reader of a line.
+pub mod figures;

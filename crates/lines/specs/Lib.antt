@@ -1,2 +1,3 @@
 -- Lines of text: figures written and read, fields, the reader of a line.
 pub mod Figures
+pub mod Fields

@@ -1,0 +1,2 @@
+-- Laws of sharing and of the transfer step.
+pub mod Sharing

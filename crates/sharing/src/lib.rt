@@ -1,0 +1,71 @@
+// Sharing and the transfer step (document 01, 'Sharing' and step 5): the rule on slices, and the two public calls.
+ghost use mathlib.Core.Path.{_≡_};
+ghost use mathlib.Core.Bool.{true};
+ghost use mathlib.Core.List.{List, _++_};
+ghost use Prim.Native.Nat.{_+_, _*_, _/_, _^_, _≤_, _<_, min};
+ghost use lib.ListN.{length, drop, getD};
+ghost use Rattle.lists.specs.Lists.{sum, atMost};
+ghost use Rattle.lists.specs.Columns.{_⊖_, _⊓_};
+ghost use Rattle.sharing.specs.Sharing.{share};
+ghost use Rattle.sharing.specs.Calls.{Shared, sharingCall};
+
+// Totals of weights and shared figures stay below this.
+const LIMIT: u64 = 4611686018427387904;
+
+// The sum of the weights, or 2^62 where it is that or more.
+pub fn weights_total(weights: &[u64]) -> u64
+    ensures { λ r. ⌜ r ≡ min (2 ^ 62) (sum (now (weights .entry))) ⌝ }
+{
+    let mut w: u64 = 0;
+    let mut i: usize = 0;
+    while i < weights.len() {
+        let x = weights[i];
+        if LIMIT - w <= x {
+            return LIMIT;
+        }
+        w = w + x;
+        i = i + 1;
+    }
+    w
+}
+
+// Shares t over the weights, whose sum is w, into the front of parts. The rest of parts stays.
+pub fn share_into(t: u64, w: u64, weights: &[u64], parts: &mut [u64])
+    requires { ⌜ (w ≡ sum (now weights)) × (sum (now weights) < 2 ^ 62) ⌝ }
+    requires { ⌜ length (now weights) ≤ length (now parts) ⌝ }
+    ensures { λ _. ⌜ now (parts .exit) ≡ share t (now (weights .entry)) ++ drop (length (now (weights .entry))) (now (parts .entry)) ⌝ }
+{
+    let mut c: u64 = 0;
+    let mut before: u64 = 0;
+    let mut i: usize = 0;
+    while i < weights.len() {
+        c = c + weights[i];
+        let up_to = wide::mul_div(t, c, w);
+        parts[i] = up_to - before;
+        before = up_to;
+        i = i + 1;
+    }
+}
+
+// Sharing, with the questions put. The answer is the number: 0 where the parts are written, else parts stays as it was.
+pub fn share(total: u64, weights: &[u64], parts: &mut [u64]) -> u64
+    ensures { λ r. ⌜ _≡_ {A = Shared} (record { number = r; parts = now (parts .exit) }) (sharingCall total (now (weights .entry)) (now (parts .entry))) ⌝ }
+{
+    if weights.len() != parts.len() {
+        return 24;
+    }
+    let w = weights_total(weights);
+    if w >= LIMIT {
+        return 24;
+    }
+    if total >= LIMIT {
+        return 24;
+    }
+    if total > 0 {
+        if w == 0 {
+            return 25;
+        }
+    }
+    share_into(total, w, weights, parts);
+    0
+}

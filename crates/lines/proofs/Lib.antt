@@ -1,3 +1,5 @@
 -- Laws of lines.
 pub mod Decimal
 pub mod Commas
+pub mod Starts
+pub mod Digits

@@ -25,4 +25,3 @@ pub record Shared : Type 0 where
 unfoldable pub sharingCall : ℕ → List ℕ → List ℕ → Shared
 sharingCall t ws lent =
     outcome (sharingNumber t ws lent) (record { number = 0; parts = share t ws }) (λ n. record { number = n; parts = lent })
-

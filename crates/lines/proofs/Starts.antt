@@ -1,0 +1,58 @@
+-- Laws of line starts. Assumes nothing.
+use mathlib.Core.Path.{_≡_, refl, sym, ap, _∙_}
+use mathlib.Core.Bool.{Bool, true, false, false≢true, cond, _&&_}
+use mathlib.Core.List.{List, [], _∷_}
+use Prim.Native.Nat.{ℕ, zero, suc, _+_, _-_, _≤_, _<_}
+use native.Mathlib.Numerals.{add-one}
+use native.Mathlib.Omega.{arith}
+use borrow.Author.Tests.{eq-eqb, ne-eqb}
+use lib.Dec.{eqb}
+use lib.ListN.{length, drop, getD, drop-of-length-le}
+use lib.Seq.{drop-cons}
+use Rattle.lists.proofs.Questions.{and-second, both, asks}
+use Rattle.lines.specs.Reading.{startsWith, lineStart, startLength, countFits}
+
+-- ---- a definition by cases, for `search cases`
+
+pub case-yes : {A : Type 0} (b : Bool) (x y r : A) → b ≡ true → r ≡ x → r ≡ cond b x y
+case-yes b x y r e p = rw e p
+
+pub case-no : {A : Type 0} (b : Bool) (x y r : A) → b ≡ false → r ≡ y → r ≡ cond b x y
+case-no b x y r e p = rw e p
+
+pub ruleset cases = (case-yes, case-no, asks)
+
+-- ---- a loop that compares
+
+-- more bytes than the line has
+pub starts-short : (bytes line : List ℕ) → length line < length bytes → false ≡ startsWith bytes line
+unfolding startsWith
+starts-short [] line h = absurd (omega arith)
+starts-short (b ∷ bs) [] h = refl
+starts-short (b ∷ bs) (x ∷ line) h = sym (and-second (eqb x b) (startsWith bs line) (sym (starts-short bs line (omega arith))))
+
+-- the first i bytes are the same
+pub record Matching (bytes line : List ℕ) (i : ℕ) : Type 0 where
+  pub room : length bytes ≤ length line
+  pub whole : startsWith bytes line ≡ startsWith (drop i bytes) (drop i line)
+
+module _ {bytes line : List ℕ} where
+  pub matching : length bytes ≤ length line → Matching bytes line 0
+  matching h = record { room = h; whole = refl }
+
+  module _ {i : ℕ} (m : Matching bytes line i) where
+    step : i < length bytes → startsWith bytes line ≡ (eqb (getD line i 0) (getD bytes i 0) && startsWith (drop (suc i) bytes) (drop (suc i) line))
+    unfolding startsWith
+    step h =
+        let k : i < length line = omega (arith, m .room) in
+        m .whole ∙ rw (drop-cons bytes i 0, drop-cons line i 0)
+
+    pub matching-more : i < length bytes → getD line i 0 ≡ getD bytes i 0 → Matching bytes line (i + 1)
+    matching-more h e = record { room = m .room; whole = step h ∙ rw (eq-eqb (getD line i 0) (getD bytes i 0) e, add-one) }
+
+    pub mismatched : i < length bytes → (getD line i 0 ≡ getD bytes i 0 → ⊥) → false ≡ startsWith bytes line
+    mismatched h n = sym (step h ∙ rw (ne-eqb (getD line i 0) (getD bytes i 0) n))
+
+    pub matched : length bytes ≤ i → true ≡ startsWith bytes line
+    unfolding startsWith
+    matched h = sym (m .whole ∙ rw (drop-of-length-le bytes h))

@@ -143,6 +143,9 @@ fields-first (b ∷ bs) = by (eqb b 44) refl (fields-first bs)
     by true e ih = rw e
     by false e ih = rw (e, ih)
 
+pub fields-some : (l : List ℕ) → 0 < length (fields l)
+fields-some l = omega (arith, ap length (fields-first l))
+
 module _ {l : List ℕ} {index r : ℕ} (s : Starts l index r) where
   pub field-absent : length l < r → length (fields l) ≤ index
   field-absent h = omega (arith, length-drop index (fields l), ap length (s .absent h))

@@ -3,3 +3,4 @@ pub mod Decimal
 pub mod Commas
 pub mod Starts
 pub mod Digits
+pub mod Lines

@@ -79,7 +79,7 @@ unfoldable pub worth : List ℕ → ℕ
 worth field = cond (isFigure field) (value field) 0
 
 -- what is known once the fields fs were read to the front of a list: a count above the list's length says that there was no room
-pub record FieldsRead (fs : List (List ℕ)) (old new : List ℕ) (count : ℕ) (good : Bool) : Type 0 where
+pub record ReadTo (fs : List (List ℕ)) (old new : List ℕ) (count : ℕ) (good : Bool) : Type 0 where
   pub many : length old < length fs → length old < count
   pub counted : length fs ≤ length old → count ≡ length fs
   pub tested : length fs ≤ length old → good ≡ every isFigure fs

@@ -7,7 +7,7 @@ ghost use lib.ListN.{length, take, drop};
 ghost use Rattle.lists.specs.Lists.{every};
 ghost use Rattle.lines.specs.Figures.{isDigit, leadingZero, isFigure};
 ghost use Rattle.lines.specs.Fields.{fields};
-ghost use Rattle.lines.specs.Reading.{startsWith, lineStart, startLength, countFits, ReadAs, FieldsRead, ReadEnd, readCall};
+ghost use Rattle.lines.specs.Reading.{startsWith, lineStart, startLength, countFits, ReadAs, ReadTo, ReadEnd, readCall};
 use crate::fields::LONGEST;
 use crate::fields::field_at;
 
@@ -138,4 +138,48 @@ fn read_figure(field: &[u8]) -> FieldRead
         return no_figure();
     }
     read_digits(field)
+}
+
+// Fields as read: how many there are, and whether each is a figure.
+struct FieldsRead {
+    count: usize,
+    good: bool,
+}
+
+// Reads the fields from a position on, their figures to the front of the list; one more than its length where it has no room.
+fn read_fields(line: &[u8], from: usize, figures: &mut [u64]) -> FieldsRead
+    requires { ⌜ from ≤ length (now line) ⌝ }
+    ensures { λ r. ⌜ ReadTo (fields (drop from (now (line .entry)))) (now (figures .entry)) (now (figures .exit)) (r .count) (r .good) ⌝ }
+{
+    let mut at = from;
+    let mut good = true;
+    let mut count: usize = 0;
+    while count < figures.len() {
+        let field = field_at(line, at);
+        let read = read_figure(field);
+        figures[count] = read.value;
+        good = good && read.good;
+        count += 1;
+        at += field.len();
+        if line.len() <= at {
+            return FieldsRead { count, good };
+        }
+        at += 1;
+    }
+    FieldsRead {
+        count: count + 1,
+        good,
+    }
+}
+
+// Copies the first figures of a list to the front of another.
+fn copy_front(from: &[u64], count: usize, to: &mut [u64])
+    requires { ⌜ (count ≤ length (now from)) × (count ≤ length (now to)) ⌝ }
+    ensures { λ _. ⌜ now (to .exit) ≡ take count (now (from .entry)) ++ drop count (now (to .entry)) ⌝ }
+{
+    let mut i: usize = 0;
+    while i < count {
+        to[i] = from[i];
+        i += 1;
+    }
 }

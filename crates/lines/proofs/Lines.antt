@@ -1,18 +1,24 @@
 -- Laws of reading: a loop that reads the fields of a line to the front of a list, and what the call answers. Assumes nothing.
 use mathlib.Core.Path.{_≡_, refl, sym, ap, _∙_}
-use mathlib.Core.Bool.{Bool, true, false, cond, _&&_}
+use mathlib.Core.Bool.{Bool, true, false, false≢true, cond, _&&_}
 use mathlib.Core.List.{List, [], _∷_, _++_, map, append-assoc, append-nil}
 use Prim.Native.Nat.{ℕ, zero, suc, _+_, _-_, _≤_, _<_, zero-le}
 use native.Mathlib.Nat.{zero-add}
 use native.Mathlib.Numerals.{add-one}
 use native.Mathlib.Omega.{arith}
+use borrow.Author.Tests.{lt-ltb, le-leb, lt-leb, leb-true, leb-false}
+use lib.Dec.{leb, ltb}
 use lib.ListN.{length, take, drop, getD, set, length-set, length-map, take-append-drop}
-use lib.Seq.{take-suc-set, drop-set-lt, drop-drop, length-take-le, getD-take, ext-getD}
+use lib.Seq.{take-suc-set, drop-set-lt, drop-drop, length-take-le, getD-take, ext-getD, take-at}
 use Rattle.lists.specs.Lists.{every, table}
+use Rattle.lists.specs.Questions.{firstNo}
+use Rattle.lists.proofs.Questions.{both, refuses, accepts}
 use Rattle.lists.proofs.Sums.{length-table, getD-table}
 use Rattle.lines.specs.Figures.{value, isFigure}
 use Rattle.lines.specs.Fields.{nextComma, firstField, fields}
-use Rattle.lines.specs.Reading.{ReadAs, worth, ReadTo}
+use Rattle.lines.specs.Reading.{lineStart, startLength, lineFields, countFits, readNumber, refusal, ReadEnd, readCall, ReadAs, worth, ReadTo}
+use Rattle.lines.specs.declared.reading.Line.{Line}
+use Rattle.lines.proofs.Starts.{too-many}
 use Rattle.lines.proofs.Commas.{fields-more, fields-last, fields-some, field-long, next-high}
 
 -- ---- a loop that reads fields
@@ -122,3 +128,113 @@ pub front-table : (l : List ℕ) (n : ℕ) → n ≤ length l → table n (λ (i
 front-table l n h =
     ext-getD 0 (table n (λ (i : ℕ). getD l i 0)) (take n l) (length-table (λ (i : ℕ). getD l i 0) n ∙ sym (length-take-le n l h))
     (λ i k. let in-front : i < n = rw length-table at k in getD-table (λ (i : ℕ). getD l i 0) n i 0 in-front ∙ sym (getD-take n l i 0 in-front))
+
+-- ---- the questions
+
+-- figures are worth their values
+worths : (fs : List (List ℕ)) → every isFigure fs ≡ true → map worth fs ≡ map value fs
+unfolding every worth
+worths [] e = refl
+worths (f ∷ fs) e =
+    let parts = both (isFigure f) (every isFigure fs) e in
+    rw (parts .0, worths fs (parts .1))
+
+-- what is known once the fields are read to a list of 513 places
+pub record Known (line : List ℕ) (start : ℕ) (list : List ℕ) (count : ℕ) (good : Bool) : Type 0 where
+  pub short : length line ≤ 8192
+  pub is : start ≡ lineStart line
+  pub some : start ≡ 0 → ⊥
+  pub size : length list ≡ 513
+  pub many : 513 < length (lineFields line) → 513 < count
+  pub counted : length (lineFields line) ≤ 513 → count ≡ length (lineFields line)
+  pub tested : length (lineFields line) ≤ 513 → good ≡ every isFigure (lineFields line)
+  pub holds : length (lineFields line) ≤ 513 → take (length (lineFields line)) list ≡ map worth (lineFields line)
+
+pub known : (line : List ℕ) (start from : ℕ) {own list : List ℕ} {count : ℕ} {good : Bool} → ReadTo (fields (drop from line)) own list count good → length own ≡ 513
+    → length list ≡ length own → length line ≤ 8192 → start ≡ lineStart line → (start ≡ 0 → ⊥) → from ≡ startLength start → Known line start list count good
+unfolding lineFields
+known line start from {own} {list} {count} {good} read size same short is some e =
+    let r : ReadTo (lineFields line) own list count good = rw (← is, ← e) read in
+    record {
+      short = short;
+      is = is;
+      some = some;
+      size = same ∙ size;
+      many = λ p. omega (arith, r .many (omega (arith, size)));
+      counted = λ p. r .counted (rw size p);
+      tested = λ p. r .tested (rw size p);
+      holds = λ p. rw (r .written (rw size p)) (take-at (map worth (lineFields line)) (drop (length (lineFields line)) own) (length (lineFields line)) (length-map (lineFields line) worth));
+    }
+
+module _ {line : List ℕ} {start : ℕ} {list : List ℕ} {count : ℕ} {good : Bool} (k : Known line start list count good) (places : ℕ) where
+  -- 28 may be put of the count
+  count-fits : countFits start count ≡ countFits (lineStart line) (length (lineFields line))
+  count-fits = by (leb (length (lineFields line)) 513) refl
+    where
+      by : (t : Bool) → leb (length (lineFields line)) 513 ≡ t → countFits start count ≡ countFits (lineStart line) (length (lineFields line))
+      by true e =
+          let few : length (lineFields line) ≤ 513 = leb-true (length (lineFields line)) 513 e in
+          rw (k .is, k .counted few)
+      by false e =
+          let many : 513 < length (lineFields line) = leb-false (length (lineFields line)) 513 e in
+          too-many start count (k .many many) ∙ sym (too-many (lineStart line) (length (lineFields line)) many)
+
+  started : ltb 0 (lineStart line) ≡ true
+  started = lt-ltb 0 (lineStart line) (omega (arith, k .is, pos start (k .some)))
+    where
+      pos : (n : ℕ) → (n ≡ 0 → ⊥) → 0 < n
+      pos zero h = absurd (h refl)
+      pos (suc n) h = omega arith
+
+  pub number-28 : countFits start count ≡ false → 28 ≡ readNumber line places
+  unfolding readNumber firstNo
+  number-28 e = rw (le-leb (length line) 8192 (k .short), started, ← count-fits, e)
+
+  module _ (f : countFits start count ≡ true) where
+    few : length (lineFields line) ≤ 513
+    few = by (leb (length (lineFields line)) 513) refl
+      where
+        by : (t : Bool) → leb (length (lineFields line)) 513 ≡ t → length (lineFields line) ≤ 513
+        by true e = leb-true (length (lineFields line)) 513 e
+        by false e =
+            let many : 513 < length (lineFields line) = leb-false (length (lineFields line)) 513 e in
+            absurd (false≢true (sym (too-many (lineStart line) (length (lineFields line)) many) ∙ sym count-fits ∙ f))
+
+    pub count-is : count ≡ length (lineFields line)
+    count-is = k .counted few
+
+    pub count-low : count ≤ 513
+    count-low = omega (arith, count-is, few)
+
+    pub number-29 : good ≡ false → 29 ≡ readNumber line places
+    unfolding readNumber firstNo
+    number-29 e = rw (le-leb (length line) 8192 (k .short), started, ← count-fits, f, ← k .tested few, e)
+
+    module _ (g : good ≡ true) where
+      pub number-30 : places < count → 30 ≡ readNumber line places
+      unfolding readNumber firstNo
+      number-30 e = rw (le-leb (length line) 8192 (k .short), started, ← count-fits, f, ← k .tested few, g, lt-leb (length (lineFields line)) places (rw count-is at e))
+
+      pub number-0 : count ≤ places → 0 ≡ readNumber line places
+      unfolding readNumber firstNo
+      number-0 e = rw (le-leb (length line) 8192 (k .short), started, ← count-fits, f, ← k .tested few, g, le-leb (length (lineFields line)) places (rw count-is at e))
+
+      -- each field is worth its value
+      pub figures-are : take count list ≡ map value (lineFields line)
+      figures-are = ap (λ (n : ℕ). take n list) count-is ∙ k .holds few ∙ worths (lineFields line) (sym (k .tested few) ∙ g)
+
+-- ---- what the call leaves
+
+module _ (line old : List ℕ) where
+  pub refused-with : (n : ℕ) {answer : Line} → answer ≡ refusal n → n ≡ readNumber line (length old) → (n ≡ 0 → ⊥)
+      → _≡_ {A = ReadEnd} (record { answer = answer; figures = old }) (readCall line old)
+  unfolding readCall
+  refused-with n e p h = refuses n (readNumber line (length old)) _ _ _ p h (rw e)
+
+  pub accepted-with : {start : ℕ} {list : List ℕ} {count : ℕ} {good : Bool} {after : List ℕ} → Known line start list count good → countFits start count ≡ true → good ≡ true
+      → count ≤ length old → after ≡ take count list ++ drop count old
+      → _≡_ {A = ReadEnd} (record { answer = record { number = 0; start = start; fields = count }; figures = after }) (readCall line old)
+  unfolding readCall
+  accepted-with k f g h e =
+      accepts 0 (readNumber line (length old)) _ _ _ (number-0 k (length old) f g h) refl
+      (rw (e, figures-are k (length old) f g, k .is, count-is k (length old) f))

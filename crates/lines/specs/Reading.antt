@@ -17,13 +17,26 @@ startsWith [] line = true
 startsWith (b ∷ bs) [] = false
 startsWith (b ∷ bs) (x ∷ line) = eqb x b && startsWith bs line
 
--- question 27: the starts `MRE,1,`, `P,`, `H,` and `G,`, numbered 1 to 4; 0 for any other line
+-- question 27: the starts `MRE,1,`, `P,`, `H,` and `G,`
+abbrev pub monthStart : List ℕ
+monthStart = 77 ∷ 82 ∷ 69 ∷ 44 ∷ 49 ∷ 44 ∷ []
+
+abbrev pub plantStart : List ℕ
+plantStart = 80 ∷ 44 ∷ []
+
+abbrev pub periodStart : List ℕ
+periodStart = 72 ∷ 44 ∷ []
+
+abbrev pub meterStart : List ℕ
+meterStart = 71 ∷ 44 ∷ []
+
+-- which start a line has, as a number from 1 to 4; 0 where it has none
 unfoldable pub lineStart : List ℕ → ℕ
 lineStart line =
-    cond (startsWith (77 ∷ 82 ∷ 69 ∷ 44 ∷ 49 ∷ 44 ∷ []) line) 1
-    (cond (startsWith (80 ∷ 44 ∷ []) line) 2
-    (cond (startsWith (72 ∷ 44 ∷ []) line) 3
-    (cond (startsWith (71 ∷ 44 ∷ []) line) 4
+    cond (startsWith monthStart line) 1
+    (cond (startsWith plantStart line) 2
+    (cond (startsWith periodStart line) 3
+    (cond (startsWith meterStart line) 4
     0)))
 
 -- how many bytes the start has
@@ -58,6 +71,10 @@ pub record ReadEnd : Type 0 where
   pub answer : Line
   pub figures : List ℕ
 
+-- refused: the number, and zeros in the other parts of the answer
+abbrev pub refusal : ℕ → Line
+refusal n = record { number = n; start = 0; fields = 0 }
+
 -- accepted, the figures stand at the front of the list and the rest of it stays; refused, nothing is written
 unfoldable pub readCall : List ℕ → List ℕ → ReadEnd
 readCall line figures =
@@ -66,7 +83,7 @@ readCall line figures =
       answer = record { number = 0; start = lineStart line; fields = length (lineFields line) };
       figures = map value (lineFields line) ++ drop (length (lineFields line)) figures;
     })
-    (λ n. record { answer = record { number = n; start = 0; fields = 0 }; figures = figures })
+    (λ n. record { answer = refusal n; figures = figures })
 
 -- ---- inner forms
 

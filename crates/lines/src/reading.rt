@@ -7,7 +7,7 @@ ghost use lib.ListN.{length, take, drop};
 ghost use Rattle.lists.specs.Lists.{every};
 ghost use Rattle.lines.specs.Figures.{isDigit, leadingZero, isFigure};
 ghost use Rattle.lines.specs.Fields.{fields};
-ghost use Rattle.lines.specs.Reading.{startsWith, lineStart, startLength, countFits, ReadAs, ReadTo, ReadEnd, readCall};
+ghost use Rattle.lines.specs.Reading.{startsWith, lineStart, startLength, countFits, ReadAs, ReadTo, refusal, ReadEnd, readCall};
 use crate::fields::LONGEST;
 use crate::fields::field_at;
 
@@ -181,5 +181,46 @@ fn copy_front(from: &[u64], count: usize, to: &mut [u64])
     while i < count {
         to[i] = from[i];
         i += 1;
+    }
+}
+
+fn refused(number: u64) -> Line
+    ensures { λ r. ⌜ r ≡ refusal number ⌝ }
+{
+    Line {
+        number,
+        start: 0,
+        fields: 0,
+    }
+}
+
+// Reads a line, its end byte 10 removed. The figures are read to a list of its own, so that a refusal leaves the lent one as it was.
+pub fn read_line(line: &[u8], figures: &mut [u64]) -> Line
+    ensures { λ r. ⌜ _≡_ {A = ReadEnd} (record { answer = r; figures = now (figures .exit) }) (readCall (now (line .entry)) (now (figures .entry))) ⌝ }
+{
+    if LONGEST < line.len() {
+        return refused(26);
+    }
+    let start = line_start(line);
+    if start == 0 {
+        return refused(27);
+    }
+    let mut own: [u64; 513] = [0; 513];
+    let read = read_fields(line, start_length(start), &mut own);
+    let count = read.count;
+    if !count_fits(start, count) {
+        return refused(28);
+    }
+    if !read.good {
+        return refused(29);
+    }
+    if figures.len() < count {
+        return refused(30);
+    }
+    copy_front(&own, count, figures);
+    Line {
+        number: 0,
+        start,
+        fields: count as u64,
     }
 }

@@ -10,7 +10,8 @@
 --     filled          at the end
 --   A loop that stores f i at i, for any f. Its invariant is `Tabling f n i out₀ out`; the laws are tabling, tabling-more, tabled.
 --   A loop that puts a question to each row and stops at the first no: `Scanning f n i`; the laws are scanning, scanning-more, scanned, stopped.
---   A loop that puts a test to each element and stops at the first that fails: `Passing p l i`; the laws are passing, passing-more, halted, passed.
+--   A loop that puts a test to each element and stops at the first that fails: `Passing p l i`; the laws are passing,
+--   passing-more, halted, passed; of figures that must be at most n, `Limiting n l i`, with limiting, limiting-more, exceeded, limited.
 --   A loop that sums f i, for any f. Its invariant is `Summing f n i s`; the laws are summing, summing-more, summing-le, summed.
 -- Assumes nothing.
 use mathlib.Core.Path.{_≡_, refl, sym, ap, _∙_}
@@ -27,7 +28,7 @@ use lib.Dec.{leb}
 use mir.Syntax.{w64}
 use mir.Val.{Fits}
 use borrow.Author.Tests.{le-leb, lt-leb}
-use Rattle.lists.specs.Lists.{sum, table, tableFrom, between, every}
+use Rattle.lists.specs.Lists.{sum, table, tableFrom, between, every, atMost}
 use Rattle.lists.specs.Questions.{_then_, firstNumber}
 use Rattle.lists.proofs.Questions.{then-yes, then-no}
 
@@ -218,12 +219,23 @@ module _ {A : Type 0} {p : A → Bool} {l : List A} where
   passed {i} k h = sym (k .whole ∙ rest-none (every p) l i h ∙ every-nil p)
 
 -- ... of figures that must be at most n
-module _ {n : ℕ} {l : List ℕ} where
-  pub limit-more : {i : ℕ} → Passing (λ x. leb x n) l i → i < length l → getD l i 0 ≤ n → Passing (λ x. leb x n) l (i + 1)
-  limit-more k h e = passing-more 0 k h (le-leb _ n e)
+pub record Limiting (n : ℕ) (l : List ℕ) (i : ℕ) : Type 0 where
+  pub now : Passing (λ x. leb x n) l i
 
-  pub limit-passed : {i : ℕ} → Passing (λ x. leb x n) l i → i < length l → n < getD l i 0 → false ≡ every (λ x. leb x n) l
-  limit-passed k h e = halted 0 k h (lt-leb _ n e)
+module _ {n : ℕ} {l : List ℕ} where
+  pub limiting : Limiting n l 0
+  limiting = record { now = passing }
+
+  pub limiting-more : {i : ℕ} → Limiting n l i → i < length l → getD l i 0 ≤ n → Limiting n l (i + 1)
+  limiting-more k h e = record { now = passing-more 0 (k .now) h (le-leb _ n e) }
+
+  pub exceeded : {i : ℕ} → Limiting n l i → i < length l → n < getD l i 0 → false ≡ atMost n l
+  unfolding atMost
+  exceeded k h e = halted 0 (k .now) h (lt-leb _ n e)
+
+  pub limited : {i : ℕ} → Limiting n l i → length l ≤ i → true ≡ atMost n l
+  unfolding atMost
+  limited k h = passed (k .now) h
 
 -- A table of one value.
 pub table-constant {ℓ} : {A : Type ℓ} (n : ℕ) (v : A) → table n (λ _. v) ≡ replicate n v
@@ -234,4 +246,4 @@ table-constant n v = go n 0
     go (suc n) i = ap (λ l. v ∷ l) (go n (i + 1))
 
 -- For `search loops` at the needs of a loop.
-pub ruleset loops = (filling, tabling, tabling-more, tabled, updating, updating-more, updated, summing, summing-more, summed, adding, adding-more, adding-fits, added, scanning, scanning-more, scanned, stopped, passing, passed, limit-more, limit-passed, needs)
+pub ruleset loops = (filling, tabling, tabling-more, tabled, updating, updating-more, updated, summing, summing-more, summed, adding, adding-more, adding-fits, added, scanning, scanning-more, scanned, stopped, limiting, limiting-more, exceeded, limited, needs)

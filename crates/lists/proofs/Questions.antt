@@ -1,14 +1,15 @@
 -- Laws of questions. `search asks` proves an answer `r ≡ firstNo (..)` from the tests that led to it, one `if` for each comparison or call;
 -- `search tests` proves what a function of a few joined tests answers; `search outcomes` proves what a call leaves by its number. Assumes nothing.
-use Prim.Native.Nat.{ℕ, zero, suc, _+_, _<_, _≤_}
+use Prim.Native.Nat.{ℕ, zero, suc, _+_, _*_, _<_, _≤_}
 use mathlib.Core.Bool.{Bool, true, false, false≢true, not, cond, _&&_, _||_}
 use mathlib.Core.List.{List, [], _∷_}
 use mathlib.Core.Path.{_≡_, refl, sym, ap, _∙_, subst}
 use native.Mathlib.Omega.{arith}
 use borrow.Author.Tests.{leb-true, not-true, not-false, le-leb, lt-leb, lt-ltb, le-ltb, eq-eqb, ne-eqb}
 use lib.Dec.{T, eqb, ltb, leb}
-use lib.ListN.{getD}
-use Rattle.lists.specs.Lists.{every}
+use lib.ListN.{length, getD}
+use native.Mathlib.Nat.{suc-mul}
+use Rattle.lists.specs.Lists.{sum, every, atMost}
 use Rattle.lists.specs.Questions.{_then_, Question, _⁇_, part, firstNo, firstNumber, inRange, outcome}
 
 pub then-yes : (n m r : ℕ) → 0 ≡ n → r ≡ m → r ≡ n then m
@@ -171,11 +172,23 @@ every-at p [] d z e i = z
 every-at p (x ∷ xs) d z e zero = both (p x) (every p xs) e .0
 every-at p (x ∷ xs) d z e (suc i) = every-at p xs d z (both (p x) (every p xs) e .1) i
 
-pub at-most-all : (xs : List ℕ) (n : ℕ) → ((i : ℕ) → getD xs i 0 ≤ n) → every (λ x. leb x n) xs ≡ true
+pub at-most-all : (xs : List ℕ) (n : ℕ) → ((i : ℕ) → getD xs i 0 ≤ n) → atMost n xs ≡ true
+unfolding atMost
 at-most-all xs n h = every-all (λ x. leb x n) xs 0 (λ i. le-leb _ n (h i))
 
-pub at-most-at : (xs : List ℕ) (n : ℕ) → every (λ x. leb x n) xs ≡ true → (i : ℕ) → getD xs i 0 ≤ n
+pub at-most-at : (xs : List ℕ) (n : ℕ) → atMost n xs ≡ true → (i : ℕ) → getD xs i 0 ≤ n
+unfolding atMost
 at-most-at xs n e i = leb-true _ n (every-at (λ x. leb x n) xs 0 (le-leb 0 n (omega arith)) e i)
+
+-- figures at most n: their sum is at most n for each
+pub sum-at-most : (xs : List ℕ) (n : ℕ) → atMost n xs ≡ true → sum xs ≤ length xs * n
+unfolding sum atMost every
+sum-at-most [] n e = omega arith
+sum-at-most (x ∷ xs) n e =
+    let h = both (leb x n) _ e in
+    let a = leb-true x n (h .0) in
+    let b = sum-at-most xs n (h .1) in
+    omega (arith, suc-mul (length xs) n)
 
 pub ruleset asks = (no, yes, part-no, part-yes, part-last, all-yes, le-leb, lt-leb, lt-ltb, le-ltb, eq-eqb, ne-eqb, refused, granted, called-no, called-yes, none, some, eq-of, ne-of, below, above, in-range, not-yes, not-no, and-both, and-first, and-second, refl)
 

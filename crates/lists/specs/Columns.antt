@@ -1,5 +1,5 @@
 -- Lists of figures, one for each row (a plant, a period or a submarket). A figure past a list's end counts as zero. Assumes nothing.
-use Prim.Native.Nat.{ℕ, zero, suc, _+_, _-_, min}
+use Prim.Native.Nat.{ℕ, zero, suc, _+_, _-_, min, _≤_}
 use mathlib.Core.Bool.{Bool, cond}
 use mathlib.Core.List.{List, [], _∷_, flatten}
 use lib.Dec.{eqb}
@@ -28,6 +28,10 @@ xs ⊓ ys = rowwise min 0 0 xs ys
 
 abbrev pub _⊕ℤ_ : List ℤ → List ℤ → List ℤ
 xs ⊕ℤ ys = rowwise _+ℤ_ (pos 0) (pos 0) xs ys
+
+-- no figure of the first above that of the second
+abbrev pub Below : List ℕ → List ℕ → Type 0
+Below xs ys = (i : ℕ) → getD xs i 0 ≤ getD ys i 0
 
 -- several columns added up, row by row
 unfoldable pub joined : List (List ℕ) → List ℕ

@@ -33,7 +33,7 @@ every p [] = true
 every p (x ∷ xs) = p x && every p xs
 
 -- is each figure at most the bound?
-abbrev pub atMost : ℕ → List ℕ → Bool
+unfoldable pub atMost : ℕ → List ℕ → Bool
 atMost bound xs = every (λ x. leb x bound) xs
 
 -- each figure is at most the bound, as a fact

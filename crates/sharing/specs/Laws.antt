@@ -2,7 +2,7 @@
 use mathlib.Core.Path.{_≡_}
 use mathlib.Core.Logic.{_⊎_}
 use mathlib.Core.List.{List, [], _++_}
-use Prim.Native.Nat.{ℕ, _-_, _*_, _/_, suc, _≤_, _<_, min}
+use Prim.Native.Nat.{ℕ, _+_, _-_, _*_, _/_, suc, _≤_, _<_, min}
 use lib.ListN.{length, getD, take, replicate}
 use Rattle.lists.specs.Lists.{sum}
 use Rattle.lists.specs.Columns.{transpose}
@@ -32,6 +32,13 @@ pub record Promised : Type 0 where
 -- a place of a table: giver g, receiver r, counted from 0
 abbrev pub place : List (List ℕ) → ℕ → ℕ → ℕ
 place table g r = getD (getD table g []) r 0
+
+-- the sums of a table of four by four: a row is what a giver gives, a column what a receiver gets
+abbrev pub rowSum : List (List ℕ) → ℕ → ℕ
+rowSum table g = place table g 0 + place table g 1 + place table g 2 + place table g 3
+
+abbrev pub columnSum : List (List ℕ) → ℕ → ℕ
+columnSum table r = place table 0 r + place table 1 r + place table 2 r + place table 3 r
 
 -- the table of step 5, where the needs are no more than what is left in sum
 pub record Served (rule : Rule) (left need : List ℕ) : Type 0 where

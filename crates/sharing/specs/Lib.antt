@@ -2,3 +2,4 @@
 pub mod Sharing
 pub mod Laws
 pub mod Calls
+pub mod Worked

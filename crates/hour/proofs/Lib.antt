@@ -1,0 +1,4 @@
+-- Laws of an hour, for any lawful rule of sharing.
+pub mod Cover
+pub mod Hour
+pub mod Blocks

@@ -1,0 +1,126 @@
+-- "One hour": steps 1 to 8. Assumes nothing.
+use Prim.Native.Nat.{ℕ, _-_, _*_, _/_, _≤_}
+use mathlib.Core.Bool.{cond}
+use mathlib.Core.List.{List, [], _∷_, map}
+use lib.Dec.{leb, eqb}
+use lib.IntN.{ℤ, pos, subℕ, _*ℤ_}
+use Rattle.lists.specs.Columns.{rowwise, _⊕_, _⊖_, _⊓_, joined, within, outside, four, at, totals, transpose, byRow}
+use Rattle.lists.specs.Lists.{sum}
+use Rattle.sharing.specs.Sharing.{Rule, share, serve, transfer}
+use Rattle.hour.specs.declared.Plant.{Plant}
+
+-- What an hour is worked from. Steps 3 to 7 share by its rule, step 1 by running totals
+pub record Hour : Type 0 where
+  pub rule : Rule
+  pub plants : List Plant
+  pub profile : List ℕ
+  pub period : ℕ
+  pub metered : List ℕ
+
+-- The hour of period k (periods count from 1), by the rule in force
+unfoldable pub hourOf : List Plant → List ℕ → List ℕ → ℕ → Hour
+hourOf plants profile metered k = record { rule = share; plants = plants; profile = profile; period = k; metered = metered }
+
+-- Rows stand by submarket 1 to 4, never falling, after one of submarket s
+abbrev pub Standing : ℕ → List ℕ → Type 0
+Standing s [] = Unit {0}
+Standing s (t ∷ ts) = (s ≤ t) × (1 ≤ t) × (t ≤ 4) × Standing t ts
+
+unfoldable pub submarkets : Hour → List ℕ
+submarkets h = map (λ (p : Plant). p .submarket) (h .plants)
+
+-- Step 1: the guarantee Q shared over the whole profile; this period's part
+unfoldable pub modulated : Hour → Plant → ℕ
+modulated h p = at (h .period) (share (p .guarantee) (h .profile)) 0
+
+-- Step 2: times loss, rounded down, times availability, rounded down; a of each plant
+unfoldable pub guaranteed : Hour → Plant → ℕ
+guaranteed h p = modulated h p * p .loss / 1000000 * p .availability / 1000000
+
+unfoldable pub guarantees : Hour → List ℕ
+guarantees h = map (guaranteed h) (h .plants)
+
+-- Step 3: secondary energy Z = Gt − A, zero where Gt is below A; covered guarantees b
+unfoldable pub secondary : Hour → ℕ
+secondary h = sum (h .metered) - sum (guarantees h)
+
+unfoldable pub covered : Hour → List ℕ
+covered h = cond (leb (sum (guarantees h)) (sum (h .metered))) (guarantees h) (h .rule (sum (h .metered)) (guarantees h))
+
+-- Steps 4 to 6, and 7 again: what the four submarkets have meets what the plants want
+module _ (rule : Rule) where
+  module _ (subs : List ℕ) where
+    -- An amount for each submarket, shared over its own rows: the others have weight zero, and so no part
+    unfoldable pub portion : List ℕ → List ℕ → List ℕ
+    portion amounts ws = joined (four (λ s. rule (at s amounts 0) (within s subs ws)))
+
+    module _ (have want : List ℕ) where
+      -- Step 4: own cover c of each submarket, and of each plant
+      unfoldable pub own : List ℕ
+      own = have ⊓ totals subs want
+
+      unfoldable pub ownParts : List ℕ
+      ownParts = portion own want
+
+      -- Step 5: the transfer table of what is left and of the open needs
+      unfoldable pub table : List (List ℕ)
+      table = transfer rule (have ⊖ own) (totals subs want ⊖ own)
+
+      -- Step 6: givers in order 1 to 4; what each plant got from each
+      unfoldable pub got : List (List ℕ)
+      got = serve portion (want ⊖ ownParts) table
+
+      -- what is left to each submarket afterwards
+      unfoldable pub rest : List ℕ
+      rest = have ⊖ own ⊖ map sum table
+
+module _ (h : Hour) where
+  -- Step 4: surpluses U of the submarkets, deficits d of the plants, own cover
+  unfoldable pub surplus : List ℕ
+  surplus = totals (submarkets h) (h .metered ⊖ covered h)
+
+  unfoldable pub deficit : List ℕ
+  deficit = covered h ⊖ h .metered
+
+  unfoldable pub ownCover : List ℕ
+  ownCover = ownParts (h .rule) (submarkets h) surplus deficit
+
+  -- Steps 5 and 6: the first table, and what each plant got by it
+  unfoldable pub coverTable : List (List ℕ)
+  coverTable = table (h .rule) (submarkets h) surplus deficit
+
+  unfoldable pub coverGot : List (List ℕ)
+  coverGot = got (h .rule) (submarkets h) surplus deficit
+
+  -- Step 7: rights to secondary r, what is left to the submarkets V, own part, the second table
+  unfoldable pub rights : List ℕ
+  rights = cond (eqb (sum (guarantees h)) 0) (h .metered) (h .rule (secondary h) (guarantees h))
+
+  unfoldable pub leftOver : List ℕ
+  leftOver = rest (h .rule) (submarkets h) surplus deficit
+
+  unfoldable pub ownSecondary : List ℕ
+  ownSecondary = ownParts (h .rule) (submarkets h) leftOver rights
+
+  unfoldable pub secondaryTable : List (List ℕ)
+  secondaryTable = table (h .rule) (submarkets h) leftOver rights
+
+  unfoldable pub secondaryGot : List (List ℕ)
+  secondaryGot = got (h .rule) (submarkets h) leftOver rights
+
+  -- Step 8: the figures in submarket s, of its own plants and of the others
+  unfoldable pub figure : ℕ → List ℕ
+  figure s =
+      within s (submarkets h) (h .metered ⊓ covered h ⊕ ownCover ⊕ ownSecondary)
+      ⊕ outside s (submarkets h) (at s coverGot [] ⊕ at s secondaryGot [])
+
+  -- Step 8: net = G − b − r
+  unfoldable pub nets : List ℤ
+  nets = rowwise subℕ 0 0 (h .metered) (covered h ⊕ rights)
+
+  -- The allotment list, four figures a plant; net and money (net × TEO), two a plant
+  unfoldable pub allotment : List ℕ
+  allotment = byRow 0 (four figure)
+
+  unfoldable pub accounts : ℕ → List ℤ
+  accounts tariff = byRow (pos 0) (nets ∷ map (λ z. z *ℤ pos tariff) nets ∷ [])

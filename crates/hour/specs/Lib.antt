@@ -1,0 +1,2 @@
+-- Document 01, 'One hour', as definitions.
+pub mod Hour

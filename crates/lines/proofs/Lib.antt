@@ -1,5 +1,7 @@
 -- Laws of lines.
 pub mod Decimal
+pub mod Signs
+pub mod Written
 pub mod Commas
 pub mod Starts
 pub mod Digits

@@ -3,7 +3,7 @@ use Prim.Native.Nat.{ℕ, zero, suc, _+_, _*_, _-_, _/_, _%_}
 use mathlib.Core.Bool.{Bool, cond, not, _&&_}
 use mathlib.Core.List.{List, [], _∷_, _++_}
 use lib.Dec.{eqb, ltb}
-use lib.IntN.{ℤ, pos, negsuc}
+use lib.IntN.{ℤ, pos, negsuc, natAbs}
 use lib.ListN.{length, getD}
 use Rattle.lists.specs.Lists.{between, every}
 use Rattle.lists.specs.Questions.{inRange}
@@ -17,10 +17,13 @@ digits (suc k) x = cond (ltb x 10) ((48 + x) ∷ []) (digits k (x / 10) ++ ((48 
 unfoldable pub figure : ℕ → List ℕ
 figure x = digits (suc x) x
 
--- "a minus before one below zero"; the minus is 45
+-- "a minus before one below zero": byte 45
+unfoldable pub minus : ℤ → List ℕ
+minus (pos n) = []
+minus (negsuc n) = 45 ∷ []
+
 unfoldable pub signedFigure : ℤ → List ℕ
-signedFigure (pos n) = figure n
-signedFigure (negsuc n) = 45 ∷ figure (suc n)
+signedFigure z = minus z ++ figure (natAbs z)
 
 -- how many bytes a figure takes
 unfoldable pub figureLength : ℕ → ℕ

@@ -2,7 +2,8 @@
 ghost use mathlib.Core.Path.{_≡_};
 ghost use Prim.Native.Nat.{_+_, _≤_, _<_, _^_};
 ghost use lib.ListN.{length};
-ghost use Rattle.lines.specs.Figures.{figure, figureLength, written};
+ghost use lib.IntN.{natAbs};
+ghost use Rattle.lines.specs.Figures.{figure, figureLength, signedFigure, signedFigureLength, written};
 
 // How many bytes the figure takes.
 pub fn figure_length(x: u64) -> usize
@@ -39,4 +40,38 @@ fn digit(d: u64) -> u8
     ensures { λ r. ⌜ r ≡ 48 + d ⌝ }
 {
     (48 + d) as u8
+}
+
+// How far a figure is from zero. The lowest one has no opposite in 64 bits.
+fn magnitude(z: i64) -> u64
+    ensures { λ r. ⌜ r ≡ natAbs z ⌝ }
+{
+    if z < 0 {
+        return (0 - (z + 1)) as u64 + 1;
+    }
+    z as u64
+}
+
+// How many bytes the signed figure takes.
+pub fn signed_figure_length(z: i64) -> usize
+    ensures { λ r. ⌜ r ≡ signedFigureLength z ⌝ }
+{
+    let length = figure_length(magnitude(z));
+    if z < 0 {
+        return 1 + length;
+    }
+    length
+}
+
+// Writes the signed figure from a position on, and answers the position behind it.
+pub fn write_signed_figure(z: i64, text: &mut [u8], at: usize) -> usize
+    requires { ⌜ at + signedFigureLength z ≤ length (now text) ⌝ }
+    ensures { λ r. ⌜ (r ≡ at + signedFigureLength z) × (now (text .exit) ≡ written (now (text .entry)) at (signedFigure z)) ⌝ }
+{
+    let x = magnitude(z);
+    if z < 0 {
+        text[at] = 45;
+        return write_figure(x, text, at + 1);
+    }
+    write_figure(x, text, at)
 }

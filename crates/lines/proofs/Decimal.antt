@@ -1,9 +1,9 @@
 -- Laws of figures written: digit by digit, how long a figure is, and that reading it gives it back. Assumes nothing.
 use mathlib.Core.Path.{_≡_, refl, sym, ap, _∙_}
-use mathlib.Core.Bool.{Bool, true, false, cond}
-use mathlib.Core.List.{List, [], _∷_, _++_, append-assoc, append-nil}
+use mathlib.Core.Bool.{Bool, true, false}
+use mathlib.Core.List.{List, [], _∷_, _++_, append-assoc}
 use Prim.Native.Nat.{ℕ, zero, suc, _+_, _-_, _*_, _/_, _%_, _^_, _≤_, _<_}
-use native.Mathlib.Nat.{pow-succ', le-trans, pow-le-pow-right, div-lt-iff-lt-mul}
+use native.Mathlib.Nat.{pow-succ'}
 use native.Mathlib.Numerals.{add-one}
 use native.Mathlib.Omega.{arith}
 use borrow.Author.Tests.{lt-ltb, le-ltb, ltb-true, ltb-false}
@@ -44,7 +44,7 @@ unfolding figureLength
 length-more x h = ap length (figure-more x h) ∙ length-append (figure (x / 10)) _ ∙ add-one _
 
 -- a law of figures follows from the figures below 10, and from that of x / 10 for each other x
-tens : {P : ℕ → Type 0} → ((x : ℕ) → x < 10 → P x) → ((x : ℕ) → 10 ≤ x → P (x / 10) → P x) → (x : ℕ) → P x
+pub tens : {P : ℕ → Type 0} → ((x : ℕ) → x < 10 → P x) → ((x : ℕ) → 10 ≤ x → P (x / 10) → P x) → (x : ℕ) → P x
 tens {P} small more x = down (suc x) x (omega arith)
   where
     by : (k x : ℕ) (t : Bool) → ltb x 10 ≡ t → x < suc k → (10 ≤ x → P (x / 10)) → P x

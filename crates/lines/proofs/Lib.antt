@@ -6,3 +6,4 @@ pub mod Commas
 pub mod Starts
 pub mod Digits
 pub mod Lines
+pub mod Promised

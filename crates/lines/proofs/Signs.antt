@@ -1,15 +1,16 @@
 -- Laws of signed figures: what is below zero, and how far. Assumes nothing.
 use mathlib.Core.Path.{_≡_, refl, sym, ap, _∙_}
 use mathlib.Core.Bool.{Bool, true, false, false≢true}
-use mathlib.Core.List.{List, [], _∷_, _++_}
-use Prim.Native.Nat.{ℕ, zero, suc, _+_, _-_, _≤_, _<_}
+use mathlib.Core.List.{List, [], _∷_}
+use Prim.Native.Nat.{ℕ, suc, _+_, _-_, _^_, _≤_, _<_}
 use native.Mathlib.Omega.{arith}
 use borrow.Author.Tests.{ltb-true}
 use lib.IntN.{ℤ, pos, negsuc, negℤ, natAbs, _+ℤ_, _-ℤ_}
 use lib.Signed.{ltZ}
-use lib.ListN.{length, set}
+use lib.ListN.{length, set, length-append}
 use Rattle.signed.proofs.View.{same-view, view-plus, view-minus, view-neg}
 use Rattle.lines.specs.Figures.{figure, minus, signedFigure, figureLength, signedFigureLength, written}
+use Rattle.lines.proofs.Decimal.{length-le}
 use Rattle.lines.proofs.Written.{written-byte, written-next}
 
 pub below-one : (z : ℤ) → ltZ z (pos 0) ≡ true → 1 ≤ natAbs z
@@ -69,3 +70,15 @@ module _ (z : ℤ) (n : ℕ) (e : n ≡ natAbs z) (text : List ℕ) (at : ℕ) (
 
   pub written-above : ltZ z (pos 0) ≡ false → written text at (figure n) ≡ written text at (signedFigure z)
   written-above t = rw (e, signed-above z t)
+
+-- ---- how long a signed figure is
+
+minus-le : (z : ℤ) → length (minus z) ≤ 1
+unfolding minus
+minus-le (pos n) = omega arith
+minus-le (negsuc n) = omega arith
+
+-- a minus and at most k digits
+pub signed-length-le : (k : ℕ) (z : ℤ) → natAbs z < 10 ^ suc k → signedFigureLength z ≤ suc (suc k)
+unfolding signedFigureLength signedFigure figureLength
+signed-length-le k z h = omega (arith, length-append (minus z) (figure (natAbs z)), minus-le z, length-le k (natAbs z) h)

@@ -1,11 +1,11 @@
 -- Laws of text written part by part. Assumes nothing.
 use mathlib.Core.Path.{_≡_, refl, sym, ap, _∙_}
 use mathlib.Core.List.{List, [], _∷_, _++_}
-use Prim.Native.Nat.{ℕ, suc, _+_, _≤_, _<_}
+use Prim.Native.Nat.{ℕ, _+_, _≤_, _<_}
 use native.Mathlib.Nat.{add-assoc}
 use native.Mathlib.Numerals.{add-one}
 use native.Mathlib.Omega.{arith}
-use lib.ListN.{length, drop, set, length-append}
+use lib.ListN.{length, set, length-append}
 use lib.Seq.{set-split}
 use Rattle.lists.specs.Lists.{between}
 use Rattle.lists.proofs.Parts.{between-next, length-between}

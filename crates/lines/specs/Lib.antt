@@ -2,3 +2,4 @@
 pub mod Figures
 pub mod Fields
 pub mod Reading
+pub mod Laws

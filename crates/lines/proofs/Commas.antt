@@ -11,7 +11,8 @@ use lib.Dec.{eqb, ltb}
 use lib.ListN.{length, take, drop, getD, length-drop, drop-of-length-le}
 use lib.Seq.{drop-cons, getD-drop, drop-drop, drop-nil, take-all, length-take-le}
 use Rattle.lists.proofs.Questions.{refuses, accepts}
-use Rattle.lines.specs.Fields.{toComma, nextComma, firstField, fields, toFirst, Starts, fieldNumber, fieldBytes}
+use Rattle.lines.specs.Fields.{toComma, nextComma, fields, toFirst, fieldNumber, fieldBytes}
+use Rattle.lines.specs.Inner.{firstField, Starts}
 
 -- ---- one byte more
 

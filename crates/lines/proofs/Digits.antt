@@ -12,7 +12,7 @@ use Rattle.lists.specs.Lists.{every}
 use Rattle.lists.proofs.Questions.{below, above, in-range}
 use Rattle.lists.proofs.Loops.{Passing, passing, passing-more, halted, passed}
 use Rattle.lines.specs.Figures.{valueFrom, value, isDigit, leadingZero, isFigure}
-use Rattle.lines.specs.Reading.{ReadAs}
+use Rattle.lines.specs.Inner.{ReadAs}
 
 -- ---- a loop over digits, with v the number that the first i make
 

@@ -8,12 +8,12 @@ use lib.ListN.{length, getD}
 use Rattle.lists.specs.Lists.{between, every}
 use Rattle.lists.specs.Questions.{inRange}
 
--- the digits of x, most significant first, without leading zeros; x is below 10 to the k
+-- the digits of x, first digit first and no zero before it, in at most k places
 unfoldable pub digits : ℕ → ℕ → List ℕ
 digits zero x = []
 digits (suc k) x = cond (ltb x 10) ((48 + x) ∷ []) (digits k (x / 10) ++ ((48 + x % 10) ∷ []))
 
--- "Figures are written shortest": the shortest decimal of x
+-- "Figures are written shortest": the shortest decimal of x, which has no more than x + 1 digits
 unfoldable pub figure : ℕ → List ℕ
 figure x = digits (suc x) x
 

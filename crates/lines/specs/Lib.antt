@@ -3,3 +3,4 @@ pub mod Figures
 pub mod Fields
 pub mod Reading
 pub mod Laws
+pub mod Inner

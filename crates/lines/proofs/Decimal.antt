@@ -10,7 +10,7 @@ use borrow.Author.Tests.{lt-ltb, le-ltb, ltb-true, ltb-false}
 use lib.Dec.{ltb}
 use lib.ListN.{length, take, drop, set, length-append, length-set, take-append-drop}
 use lib.Seq.{take-set-le, drop-set-lt, drop-cons, getD-set-same}
-use Rattle.lines.specs.Figures.{digits, figure, figureLength, valueFrom, value, written}
+use Rattle.lines.specs.Figures.{digits, figure, figureLength, valueFrom, value, written, Wrote}
 
 -- ---- digit by digit
 
@@ -111,12 +111,16 @@ module _ {x at : ℕ} {text₀ : List ℕ} where
         whole = rw (take-set-le at text (i - 1) b (omega arith), stored, e) (rw (one-more, append-assoc) at (w .whole));
       }
 
-  pub written-whole : {i rest : ℕ} {text : List ℕ} → Writing x at text₀ i rest text → i ≤ at → text ≡ written text₀ at (figure x)
+  written-whole : {i rest : ℕ} {text : List ℕ} → Writing x at text₀ i rest text → i ≤ at → text ≡ written text₀ at (figure x)
   unfolding padded
   written-whole {i} {rest} {text} w h =
       let none : i - at ≡ 0 = omega arith in
       let here : i ≡ at = omega arith in
       sym (take-append-drop at text) ∙ (rw (none, here) at (w .whole))
+
+  pub wrote : {n i rest : ℕ} {text : List ℕ} → n ≡ figureLength x → Writing x at text₀ i rest text → i ≤ at → Wrote (figure x) at text₀ text (at + n)
+  unfolding figureLength
+  wrote e w h = record { behind = ap (λ (n : ℕ). at + n) e; text = written-whole w h }
 
 -- ---- reading a written figure gives the figure
 

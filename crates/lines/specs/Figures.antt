@@ -1,4 +1,5 @@
 -- Figures as text: document 01, 'The file and its statement'. Bytes are numbers; the digits `0` to `9` are 48 to 57. Assumes nothing.
+use mathlib.Core.Path.{_≡_}
 use Prim.Native.Nat.{ℕ, zero, suc, _+_, _*_, _-_, _/_, _%_}
 use mathlib.Core.Bool.{Bool, cond, not, _&&_}
 use mathlib.Core.List.{List, [], _∷_, _++_}
@@ -53,3 +54,8 @@ isFigure bs = inRange 1 19 (length bs) && (not (leadingZero bs) && every isDigit
 -- the text, with bytes in their place from a position on; what stands before and behind them stays
 unfoldable pub written : List ℕ → ℕ → List ℕ → List ℕ
 written text at bytes = between at (at + length bytes) text bytes
+
+-- bytes written from a position on: the position behind them is answered, and the text holds them
+pub record Wrote (bytes : List ℕ) (at : ℕ) (old new : List ℕ) (answer : ℕ) : Type 0 where
+  pub behind : answer ≡ at + length bytes
+  pub text : new ≡ written old at bytes

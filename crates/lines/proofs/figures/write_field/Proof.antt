@@ -1,5 +1,4 @@
 -- `figures::write_field` meets its contract. Assumes nothing.
-use native.Mathlib.Omega.{arith}
 use borrow.Author.Needs.{needs}
 use Rattle.lines.specs.Figures.{figureLength}
 use Rattle.lines.proofs.Written.{wrote-next}

@@ -1,9 +1,9 @@
 -- `figures::write_signed_field` meets its contract. Assumes nothing.
-use mathlib.Core.Path.{_≡_, ap}
+use mathlib.Core.Path.{ap}
 use native.Mathlib.Omega.{arith}
 use borrow.Author.Needs.{needs}
 use mir.Facts.{toZ-ofZ}
-use Rattle.lines.specs.Figures.{signedFigureLength, Wrote, signedFigure}
+use Rattle.lines.specs.Figures.{signedFigureLength}
 use Rattle.lines.proofs.Written.{wrote-next}
 use Rattle.lines.proofs.figures.write_signed_field.Statement.{statement}
 use Rattle.lines.proofs.figures.write_signed_field.Tie as tie

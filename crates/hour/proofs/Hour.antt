@@ -17,9 +17,10 @@ use Rattle.lists.proofs.Sums.{at-le-sum}
 use Rattle.sharing.specs.Laws.{Lawful}
 use Rattle.sharing.specs.Sharing.{Rule, share}
 use Rattle.sharing.proofs.Sharing.{adds-le, share-lawful}
-use Rattle.hour.specs.Hour.{Hour, own, ownParts, table, got, rest, submarkets, modulated, guaranteed, guarantees, secondary, covered, deficit, surplus, leftOver, rights, ownCover, coverTable, coverGot, ownSecondary, secondaryTable, secondaryGot, figure}
+use Rattle.cover.specs.Cover.{own, ownParts, table, got, rest}
+use Rattle.hour.specs.Hour.{Hour, submarkets, modulated, guaranteed, guarantees, secondary, covered, deficit, surplus, leftOver, rights, ownCover, coverTable, coverGot, ownSecondary, secondaryTable, secondaryGot, figure}
 use Rattle.hour.specs.declared.Plant.{Plant}
-use Rattle.hour.proofs.Cover.{Met, met, own-sized, got-sized}
+use Rattle.cover.proofs.Cover.{Met, met, own-sized, got-sized}
 
 -- An hour with a lawful rule, whose plants stand in submarkets 1 to 4, with a metered figure for each
 pub record Sound (h : Hour) : Type 0 where

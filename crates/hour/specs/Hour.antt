@@ -1,12 +1,14 @@
 -- "One hour": steps 1 to 8. Assumes nothing.
-use Prim.Native.Nat.{ℕ, _-_, _*_, _/_, _≤_}
+use Prim.Native.Nat.{ℕ, _-_, _*_, _/_}
 use mathlib.Core.Bool.{cond}
 use mathlib.Core.List.{List, [], _∷_, map}
 use lib.Dec.{leb, eqb}
-use lib.IntN.{ℤ, pos, subℕ, _*ℤ_}
-use Rattle.lists.specs.Columns.{rowwise, _⊕_, _⊖_, _⊓_, joined, within, outside, four, at, totals, transpose, byRow}
+use lib.IntN.{ℤ, subℕ}
+use Rattle.lists.specs.Columns.{rowwise, _⊕_, _⊖_, _⊓_, within, outside, four, at, totals, byRow}
 use Rattle.lists.specs.Lists.{sum}
-use Rattle.sharing.specs.Sharing.{Rule, share, serve, transfer}
+use Rattle.signed.specs.Figures.{accountsOf}
+use Rattle.sharing.specs.Sharing.{Rule, share}
+use Rattle.cover.specs.Cover.{ownParts, table, got, rest}
 use Rattle.hour.specs.declared.Plant.{Plant}
 
 -- What an hour is worked from. Steps 3 to 7 share by its rule, step 1 by running totals
@@ -20,11 +22,6 @@ pub record Hour : Type 0 where
 -- The hour of period k (periods count from 1), by the rule in force
 unfoldable pub hourOf : List Plant → List ℕ → List ℕ → ℕ → Hour
 hourOf plants profile metered k = record { rule = share; plants = plants; profile = profile; period = k; metered = metered }
-
--- Rows stand by submarket 1 to 4, never falling, after one of submarket s
-abbrev pub Standing : ℕ → List ℕ → Type 0
-Standing s [] = Unit {0}
-Standing s (t ∷ ts) = (s ≤ t) × (1 ≤ t) × (t ≤ 4) × Standing t ts
 
 unfoldable pub submarkets : Hour → List ℕ
 submarkets h = map (λ (p : Plant). p .submarket) (h .plants)
@@ -46,33 +43,6 @@ secondary h = sum (h .metered) - sum (guarantees h)
 
 unfoldable pub covered : Hour → List ℕ
 covered h = cond (leb (sum (guarantees h)) (sum (h .metered))) (guarantees h) (h .rule (sum (h .metered)) (guarantees h))
-
--- Steps 4 to 6, and 7 again: what the four submarkets have meets what the plants want
-module _ (rule : Rule) where
-  module _ (subs : List ℕ) where
-    -- An amount for each submarket, shared over its own rows: the others have weight zero, and so no part
-    unfoldable pub portion : List ℕ → List ℕ → List ℕ
-    portion amounts ws = joined (four (λ s. rule (at s amounts 0) (within s subs ws)))
-
-    module _ (have want : List ℕ) where
-      -- Step 4: own cover c of each submarket, and of each plant
-      unfoldable pub own : List ℕ
-      own = have ⊓ totals subs want
-
-      unfoldable pub ownParts : List ℕ
-      ownParts = portion own want
-
-      -- Step 5: the transfer table of what is left and of the open needs
-      unfoldable pub table : List (List ℕ)
-      table = transfer rule (have ⊖ own) (totals subs want ⊖ own)
-
-      -- Step 6: givers in order 1 to 4; what each plant got from each
-      unfoldable pub got : List (List ℕ)
-      got = serve portion (want ⊖ ownParts) table
-
-      -- what is left to each submarket afterwards
-      unfoldable pub rest : List ℕ
-      rest = have ⊖ own ⊖ map sum table
 
 module _ (h : Hour) where
   -- Step 4: surpluses U of the submarkets, deficits d of the plants, own cover
@@ -123,4 +93,4 @@ module _ (h : Hour) where
   allotment = byRow 0 (four figure)
 
   unfoldable pub accounts : ℕ → List ℤ
-  accounts tariff = byRow (pos 0) (nets ∷ map (λ z. z *ℤ pos tariff) nets ∷ [])
+  accounts tariff = accountsOf tariff nets

@@ -1,2 +1,3 @@
 -- Document 01, 'One hour', as definitions.
 pub mod Hour
+pub mod Table

@@ -2,4 +2,3 @@
 pub mod Sharing
 pub mod Laws
 pub mod Calls
-pub mod Worked

@@ -1,9 +1,15 @@
--- Signed figures: the test that one is within a bound of zero. Assumes nothing.
+-- Signed figures: the test that one is within a bound of zero, and the accounts of a list of nets. Assumes nothing.
 use Prim.Native.Nat.{ℕ}
 use mathlib.Core.Bool.{Bool}
-use lib.IntN.{ℤ, natAbs}
+use mathlib.Core.List.{List, [], _∷_, map}
+use lib.IntN.{ℤ, pos, natAbs, _*ℤ_}
 use lib.Dec.{leb}
+use Rattle.lists.specs.Columns.{byRow}
 
 -- the figure is within the bound of zero
 unfoldable pub isWithin : ℕ → ℤ → Bool
 isWithin bound z = leb (natAbs z) bound
+
+-- net and money of each row, net before money: money is net × TEO
+unfoldable pub accountsOf : ℕ → List ℤ → List ℤ
+accountsOf tariff nets = byRow (pos 0) (nets ∷ map (λ z. z *ℤ pos tariff) nets ∷ [])

@@ -1,0 +1,3 @@
+-- Laws of cover for any lawful rule, and rows that stand in blocks.
+pub mod Cover
+pub mod Blocks

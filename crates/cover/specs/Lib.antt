@@ -1,0 +1,2 @@
+-- Own cover, the transfer table, and what each plant got.
+pub mod Cover

@@ -1,0 +1,45 @@
+-- Laws of the records that five columns make. Assumes nothing.
+use mathlib.Core.Path.{_≡_, refl, sym, _∙_, ap}
+use mathlib.Core.List.{List, [], _∷_, map}
+use Prim.Native.Nat.{ℕ, zero, suc, _+_, _≤_, _<_}
+use native.Mathlib.Nat.{le-of-suc-le-suc, not-suc-le-zero}
+use native.Mathlib.Numerals.{add-one}
+use lib.ListN.{length, drop, getD, drop-of-length-le}
+use Rattle.hour.specs.declared.Plant.{Plant}
+use Rattle.hour.specs.Table.{plantsOf}
+
+abbrev pub plant : ℕ → ℕ → ℕ → ℕ → ℕ → Plant
+plant s n g l v = record { submarket = s; number = n; guarantee = g; loss = l; availability = v }
+
+next : (ns : List ℕ) (i : ℕ) → getD (drop 1 ns) i 0 ≡ getD ns (suc i) 0
+next [] i = refl
+next (n ∷ ns) i = refl
+
+pub length-plants : (ss ns gs ls vs : List ℕ) → length (plantsOf ss ns gs ls vs) ≡ length ss
+unfolding plantsOf
+length-plants [] ns gs ls vs = refl
+length-plants (s ∷ ss) ns gs ls vs = ap suc (length-plants ss (drop 1 ns) (drop 1 gs) (drop 1 ls) (drop 1 vs))
+
+-- the records from row i on
+pub row-at : (i : ℕ) (ss ns gs ls vs : List ℕ) → i < length ss
+    → drop i (plantsOf ss ns gs ls vs) ≡ plant (getD ss i 0) (getD ns i 0) (getD gs i 0) (getD ls i 0) (getD vs i 0) ∷ drop (suc i) (plantsOf ss ns gs ls vs)
+unfolding plantsOf
+row-at i [] ns gs ls vs h = absurd (not-suc-le-zero h)
+row-at zero (s ∷ ss) ns gs ls vs h = refl
+row-at (suc i) (s ∷ ss) ns gs ls vs h =
+    row-at i ss (drop 1 ns) (drop 1 gs) (drop 1 ls) (drop 1 vs) (le-of-suc-le-suc h) ∙ simp next
+
+-- the record of row i
+pub plant-at : (i : ℕ) (ss ns gs ls vs : List ℕ) (d : Plant) → i < length ss
+    → getD (plantsOf ss ns gs ls vs) i d ≡ plant (getD ss i 0) (getD ns i 0) (getD gs i 0) (getD ls i 0) (getD vs i 0)
+unfolding plantsOf
+plant-at i [] ns gs ls vs d h = absurd (not-suc-le-zero h)
+plant-at zero (s ∷ ss) ns gs ls vs d h = refl
+plant-at (suc i) (s ∷ ss) ns gs ls vs d h =
+    plant-at i ss (drop 1 ns) (drop 1 gs) (drop 1 ls) (drop 1 vs) d (le-of-suc-le-suc h) ∙ simp next
+
+-- the submarkets are the first column
+pub plants-submarkets : (ss ns gs ls vs : List ℕ) → map (λ (p : Plant). p .submarket) (plantsOf ss ns gs ls vs) ≡ ss
+unfolding plantsOf
+plants-submarkets [] ns gs ls vs = refl
+plants-submarkets (s ∷ ss) ns gs ls vs = ap (λ l. s ∷ l) (plants-submarkets ss (drop 1 ns) (drop 1 gs) (drop 1 ls) (drop 1 vs))

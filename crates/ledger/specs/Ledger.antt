@@ -1,0 +1,38 @@
+-- "Plants, profile, ledger": the ledger's lists, their columns and bounds. Assumes nothing.
+use Prim.Native.Nat.{ℕ, _-_, _*_, _^_}
+use mathlib.Core.Bool.{Bool, _&&_}
+use mathlib.Core.List.{List}
+use lib.IntN.{ℤ, pos}
+use lib.ListN.{replicate}
+use Rattle.lists.specs.Lists.{every, atMost}
+use Rattle.lists.specs.Columns.{_⊕_, _⊕ℤ_, column}
+use Rattle.signed.specs.Figures.{isWithin}
+
+-- Two lists, row by row: four allotted figures a plant; net kWh and money a plant
+pub record Ledger : Type 0 where
+  pub allotted : List ℕ
+  pub accounts : List ℤ
+
+-- the columns: the figures in submarket s, the nets, the sums of money
+abbrev pub allottedIn : ℕ → Ledger → List ℕ
+allottedIn s l = column 4 (s - 1) (l .allotted)
+
+abbrev pub netColumn : Ledger → List ℤ
+netColumn l = column 2 0 (l .accounts)
+
+abbrev pub moneyColumn : Ledger → List ℤ
+moneyColumn l = column 2 1 (l .accounts)
+
+-- every figure inside its bound: allotted kWh, net kWh, money in thousandths of a centavo
+unfoldable pub inBounds : Ledger → Bool
+inBounds l =
+    atMost (1488 * 10 ^ 9) (l .allotted)
+    && (every (isWithin (1488 * 10 ^ 9)) (netColumn l) && every (isWithin (1488 * 10 ^ 13)) (moneyColumn l))
+
+-- all zeros, for p plants
+unfoldable pub zeros : ℕ → Ledger
+zeros p = record { allotted = replicate (4 * p) 0; accounts = replicate (2 * p) (pos 0) }
+
+-- figures added, one for one
+unfoldable pub added : Ledger → Ledger → Ledger
+added l more = record { allotted = l .allotted ⊕ more .allotted; accounts = l .accounts ⊕ℤ more .accounts }

@@ -1,0 +1,2 @@
+-- Document 01, 'Plants, profile, ledger': the ledger as definitions.
+pub mod Ledger

@@ -1,0 +1,4 @@
+-- The ledger adds up over the hours, and demand 3.
+pub mod Sums
+pub mod Accepted
+pub mod Demand

@@ -1,0 +1,126 @@
+-- "The questions, in the order they are put": the number that each call answers. Assumes nothing.
+use Prim.Native.Nat.{ℕ, _+_, _*_, _^_}
+use mathlib.Core.Bool.{Bool, true, false, not, _&&_, _||_}
+use mathlib.Core.List.{List, [], _∷_}
+use lib.Dec.{leb, ltb, eqb}
+use lib.ListN.{length}
+use Rattle.lists.specs.Lists.{sum, atMost}
+use Rattle.lists.specs.Columns.{at}
+use Rattle.lists.specs.Questions.{_⁇_, part, _then_, firstNo, inRange}
+use Rattle.hour.specs.declared.Plant.{Plant}
+use Rattle.hour.specs.Hour.{Hour, hourOf, allotment, accounts}
+use Rattle.ledger.specs.Ledger.{Ledger, inBounds, added}
+use Rattle.month.specs.declared.Month.{Month}
+use Rattle.month.specs.declared.Stage.{Stage}
+use Rattle.month.specs.declared.Stage.the-variants.{Blank, Open, Closed}
+
+unfoldable pub isOpen : Stage → Bool
+isOpen Blank = false
+isOpen Open = true
+isOpen Closed = false
+
+unfoldable pub isBlank : Stage → Bool
+isBlank Blank = true
+isBlank Open = false
+isBlank Closed = false
+
+-- 2, 3, 4: P, H and TEO in limits
+unfoldable pub sizesNumber : ℕ → ℕ → ℕ → ℕ
+sizesNumber p h tariff = firstNo (inRange 1 512 p ⁇ 2 ∷ inRange 1 744 h ⁇ 3 ∷ leb tariff 10000 ⁇ 4 ∷ [])
+
+-- 5: submarket 1 to 4 and not below the row before, of submarket s₀
+unfoldable pub placed : ℕ → ℕ → Bool
+placed s₀ s = inRange 1 4 s && leb s₀ s
+
+-- 6: number in limits and, in the same submarket, above the row before, of number n₀
+unfoldable pub numbered : ℕ → ℕ → ℕ → ℕ → Bool
+numbered s₀ n₀ s n = inRange 1 999999 n && (not (eqb s s₀) || ltb n₀ n)
+
+-- 5 to 8 of a row, after a row of submarket s₀ and number n₀
+unfoldable pub rowNumber : ℕ → ℕ → Plant → ℕ
+rowNumber s₀ n₀ p =
+    firstNo
+    (placed s₀ (p .submarket) ⁇ 5
+    ∷ numbered s₀ n₀ (p .submarket) (p .number) ⁇ 6
+    ∷ leb (p .guarantee) (10 ^ 12) ⁇ 7
+    ∷ (leb (p .loss) 1000000 && leb (p .availability) 1000000) ⁇ 8
+    ∷ [])
+
+-- going down the rows; the first comes after submarket 0, which no row has
+unfoldable pub rowsNumber : ℕ → ℕ → List Plant → ℕ
+rowsNumber s₀ n₀ [] = 0
+rowsNumber s₀ n₀ (p ∷ ps) = rowNumber s₀ n₀ p then rowsNumber (p .submarket) (p .number) ps
+
+-- 11: ledger lists of exactly 4P and 2P
+unfoldable pub lengthsNumber : ℕ → Ledger → ℕ
+lengthsNumber p l = firstNo ((eqb (length (l .allotted)) (4 * p) && eqb (length (l .accounts)) (2 * p)) ⁇ 11 ∷ [])
+
+-- 5 to 11
+unfoldable pub tablesNumber : ℕ → List Plant → List ℕ → Ledger → ℕ
+tablesNumber p plants profile l =
+    firstNo
+    (part (rowsNumber 0 0 plants)
+    ∷ atMost (2 * 10 ^ 9) profile ⁇ 9
+    ∷ ltb 0 (sum profile) ⁇ 10
+    ∷ part (lengthsNumber p l)
+    ∷ [])
+
+-- Open
+unfoldable pub openNumber : Month → List Plant → List ℕ → ℕ → Ledger → ℕ
+openNumber m plants profile tariff l =
+    firstNo
+    (not (isOpen (m .stage)) ⁇ 1
+    ∷ part (sizesNumber (length plants) (length profile) tariff)
+    ∷ part (tablesNumber (length plants) plants profile l)
+    ∷ [])
+
+-- Settle: 12, then 2 to 4 for the month's own P, H and TEO, then 13: rows and profile figures lent as many as these
+unfoldable pub ownNumber : Month → ℕ → ℕ → ℕ
+ownNumber m p h =
+    firstNo
+    (isOpen (m .stage) ⁇ 12
+    ∷ part (sizesNumber (m .plants) (m .periods) (m .tariff))
+    ∷ (eqb p (m .plants) && eqb h (m .periods)) ⁇ 13
+    ∷ [])
+
+-- ... 14 to 18: the period due, the metered figures, the allotment list
+unfoldable pub meteredNumber : Month → List ℕ → List ℕ → ℕ → ℕ
+meteredNumber m profile metered lent =
+    firstNo
+    (inRange 1 (m .periods) (m .due) ⁇ 14
+    ∷ eqb (length metered) (m .plants) ⁇ 15
+    ∷ atMost (2 * 10 ^ 9) metered ⁇ 16
+    ∷ eqb (sum metered) (at (m .due) profile 0) ⁇ 17
+    ∷ eqb lent (4 * m .plants) ⁇ 18
+    ∷ [])
+
+-- an hour's figures added to a ledger, its nets and its money at a tariff
+unfoldable pub posted : Ledger → Hour → ℕ → Ledger
+posted l h tariff = added l (record { allotted = allotment h; accounts = accounts h tariff })
+
+-- ... 19: every ledger figure inside its bound before and after; the hour is worked in the period due
+unfoldable pub boundsNumber : Ledger → Ledger → ℕ
+boundsNumber before after = firstNo ((inBounds before && inBounds after) ⁇ 19 ∷ [])
+
+unfoldable pub settleNumber : Month → List Plant → List ℕ → List ℕ → List ℕ → Ledger → ℕ
+settleNumber m plants profile metered lent l =
+    firstNo
+    (part (ownNumber m (length plants) (length profile))
+    ∷ part (tablesNumber (m .plants) plants profile l)
+    ∷ part (meteredNumber m profile metered (length lent))
+    ∷ part (boundsNumber l (posted l (hourOf plants profile metered (m .due)) (m .tariff)))
+    ∷ [])
+
+-- Close: a month open? 12. H in limits? 3. The last period settled, so that H + 1 is due? 20
+unfoldable pub closeNumber : Month → ℕ
+closeNumber m = firstNo (isOpen (m .stage) ⁇ 12 ∷ inRange 1 744 (m .periods) ⁇ 3 ∷ eqb (m .due) (m .periods + 1) ⁇ 20 ∷ [])
+
+-- Balance: month not blank? 21; then 2 and 11 by the month's own P, and 19 for the ledger at hand
+unfoldable pub balanceNumber : Month → Ledger → ℕ
+balanceNumber m l =
+    firstNo
+    (not (isBlank (m .stage)) ⁇ 21
+    ∷ inRange 1 512 (m .plants) ⁇ 2
+    ∷ part (lengthsNumber (m .plants) l)
+    ∷ inBounds l ⁇ 19
+    ∷ [])

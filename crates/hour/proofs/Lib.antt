@@ -2,3 +2,7 @@
 pub mod Hour
 pub mod Figures
 pub mod Table
+pub mod Profile
+pub mod Written
+pub mod Fours
+pub mod Submarkets

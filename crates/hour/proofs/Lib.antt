@@ -5,4 +5,6 @@ pub mod Table
 pub mod Profile
 pub mod Written
 pub mod Fours
+pub mod Allotment
+pub mod Limits
 pub mod Submarkets

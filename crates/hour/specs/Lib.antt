@@ -2,3 +2,4 @@
 pub mod Hour
 pub mod Table
 pub mod Steps
+pub mod Work

@@ -70,3 +70,24 @@ pub fn guarantees_into(
         i += 1;
     }
 }
+
+// Steps 1 and 2 of a period: fills the guarantees a, and answers their sum A.
+pub fn guarantees_of(
+    profile: &[u64],
+    period: u64,
+    guarantee: &[u64],
+    loss: &[u64],
+    availability: &[u64],
+    a: &mut [u64],
+) -> u64
+    requires { ⌜ (1 ≤ period) × (period ≤ length (now profile)) × (sum (now profile) < 2 ^ 62) ⌝ }
+    requires { ⌜ (length (now loss) ≡ length (now guarantee)) × (length (now availability) ≡ length (now guarantee)) × (length (now a) ≡ length (now guarantee)) ⌝ }
+    requires { ⌜ Within (now guarantee) (10 ^ 12) × Within (now loss) 1000000 × Within (now availability) 1000000 ⌝ }
+    requires { ⌜ length (now guarantee) ≤ 512 ⌝ }
+    ensures { λ _. ⌜ now (a .exit) ≡ table (length (now (guarantee .entry))) (guaranteeOf (modulationOf (now (profile .entry)) period) (now (guarantee .entry)) (now (loss .entry)) (now (availability .entry))) ⌝ }
+    ensures { λ r. ⌜ r ≡ sum (now (a .exit)) ⌝ }
+{
+    let m = modulation_at(profile, period);
+    guarantees_into(m, guarantee, loss, availability, a);
+    sharing::weights_total(a)
+}

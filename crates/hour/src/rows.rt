@@ -1,14 +1,12 @@
 // Steps 3, 4, 7 and 8 for each plant: covered guarantees, rights, surpluses, deficits, and nets. All lists have a figure for each plant.
 ghost use mathlib.Core.Path.{_≡_};
-ghost use mathlib.Core.Bool.{cond};
 ghost use Prim.Native.Nat.{_+_, _-_, _*_, _^_, _≤_, _<_, min};
-ghost use lib.Dec.{leb, eqb};
 ghost use lib.IntN.{subℕ};
 ghost use lib.ListN.{length};
 ghost use Rattle.lists.specs.Lists.{sum, Within};
 ghost use Rattle.lists.specs.Columns.{rowwise, _⊕_, _⊖_, _⊓_, inside, within, four, totals, byRow};
-ghost use Rattle.sharing.specs.Sharing.{share};
 ghost use Rattle.cover.specs.Cover.{Standing};
+ghost use Rattle.hour.specs.Steps.{coveredOf, rightsOf};
 
 // max(0, x − y)
 fn over(x: u64, y: u64) -> u64
@@ -45,7 +43,7 @@ fn copy_into(from: &[u64], to: &mut [u64])
 pub fn covered_into(generation: u64, whole: u64, a: &[u64], b: &mut [u64])
     requires { ⌜ (whole ≡ sum (now a)) × (sum (now a) < 2 ^ 62) ⌝ }
     requires { ⌜ length (now b) ≡ length (now a) ⌝ }
-    ensures { λ _. ⌜ now (b .exit) ≡ cond (leb (sum (now (a .entry))) generation) (now (a .entry)) (share generation (now (a .entry))) ⌝ }
+    ensures { λ _. ⌜ now (b .exit) ≡ coveredOf generation (now (a .entry)) ⌝ }
 {
     if whole <= generation {
         copy_into(a, b);
@@ -58,7 +56,7 @@ pub fn covered_into(generation: u64, whole: u64, a: &[u64], b: &mut [u64])
 pub fn rights_into(secondary: u64, whole: u64, a: &[u64], metered: &[u64], r: &mut [u64])
     requires { ⌜ (whole ≡ sum (now a)) × (sum (now a) < 2 ^ 62) ⌝ }
     requires { ⌜ (length (now metered) ≡ length (now a)) × (length (now r) ≡ length (now a)) ⌝ }
-    ensures { λ _. ⌜ now (r .exit) ≡ cond (eqb (sum (now (a .entry))) 0) (now (metered .entry)) (share secondary (now (a .entry))) ⌝ }
+    ensures { λ _. ⌜ now (r .exit) ≡ rightsOf secondary (now (a .entry)) (now (metered .entry)) ⌝ }
 {
     if whole == 0 {
         copy_into(metered, r);
@@ -126,4 +124,44 @@ pub fn start_into(submarket: &[u64], metered: &[u64], covered: &[u64], allotment
         allotment[at + 3] = figure_in(4, s, x);
         i += 1;
     }
+}
+
+// Step 3, and the rights of step 7: fills b and r from the guarantees a with their sum, and answers Z.
+pub fn share_out(metered: &[u64], whole: u64, a: &[u64], b: &mut [u64], r: &mut [u64]) -> u64
+    requires { ⌜ (whole ≡ sum (now a)) × (sum (now a) < 2 ^ 62) × (sum (now metered) < 2 ^ 62) ⌝ }
+    requires { ⌜ (length (now metered) ≡ length (now a)) × (length (now b) ≡ length (now a)) × (length (now r) ≡ length (now a)) ⌝ }
+    ensures { λ _. ⌜ now (b .exit) ≡ coveredOf (sum (now (metered .entry))) (now (a .entry)) ⌝ }
+    ensures { λ _. ⌜ now (r .exit) ≡ rightsOf (sum (now (metered .entry)) - sum (now (a .entry))) (now (a .entry)) (now (metered .entry)) ⌝ }
+    ensures { λ z. ⌜ z ≡ sum (now (metered .entry)) - sum (now (a .entry)) ⌝ }
+{
+    let generation = sharing::weights_total(metered);
+    let secondary = over(generation, whole);
+    covered_into(generation, whole, a, b);
+    rights_into(secondary, whole, a, metered, r);
+    secondary
+}
+
+// Step 4, and step 8 begun: fills deficits, nets and the allotment's own figures, and answers the surpluses U.
+pub fn prepare(
+    submarket: &[u64],
+    metered: &[u64],
+    covered: &[u64],
+    rights: &[u64],
+    d: &mut [u64],
+    nets: &mut [i64],
+    allotment: &mut [u64],
+) -> [u64; 4]
+    requires { ⌜ (length (now metered) ≡ length (now submarket)) × (length (now covered) ≡ length (now submarket)) × (length (now rights) ≡ length (now submarket)) ⌝ }
+    requires { ⌜ (length (now d) ≡ length (now submarket)) × (length (now nets) ≡ length (now submarket)) × (length (now allotment) ≡ 4 * length (now submarket)) ⌝ }
+    requires { ⌜ Standing 0 (now submarket) ⌝ }
+    requires { ⌜ (sum (now metered) ≤ 2 * 10 ^ 9) × (sum (now covered) ≤ 2 * 10 ^ 9) × (sum (now rights) ≤ 2 * 10 ^ 9) ⌝ }
+    ensures { λ _. ⌜ now (d .exit) ≡ now (covered .entry) ⊖ now (metered .entry) ⌝ }
+    ensures { λ _. ⌜ now (nets .exit) ≡ rowwise subℕ 0 0 (now (metered .entry)) (now (covered .entry) ⊕ now (rights .entry)) ⌝ }
+    ensures { λ _. ⌜ now (allotment .exit) ≡ byRow 0 (four (λ s. within s (now (submarket .entry)) (now (metered .entry) ⊓ now (covered .entry)))) ⌝ }
+    ensures { λ u. ⌜ u ≡ totals (now (submarket .entry)) (now (metered .entry) ⊖ now (covered .entry)) ⌝ }
+{
+    deficits_into(covered, metered, d);
+    nets_into(metered, covered, rights, nets);
+    start_into(submarket, metered, covered, allotment);
+    surplus_by(submarket, metered, covered)
 }

@@ -1,0 +1,149 @@
+-- A loop that gives rows their parts: the want of a row falls, and its figure in one column rises. Assumes nothing.
+use mathlib.Core.Path.{_≡_, refl, sym, ap, _∙_, subst}
+use mathlib.Core.Bool.{Bool, true, false, cond}
+use mathlib.Core.Logic.{_⊎_, inl, inr, ⊎-elim}
+use mathlib.Core.List.{List}
+use Prim.Native.Nat.{ℕ, _+_, _-_, _*_, _^_, _≤_, _<_, max}
+use native.Mathlib.Omega.{arith}
+use lib.Dec.{ltb, eqb}
+use lib.ListN.{length, getD, take, set, length-take, length-set, List·getD-eq-default}
+use lib.Seq.{getD-take, getD-set-same, getD-set-other, ext-getD}
+use borrow.Author.Tests.{ltb-true, ltb-false, eq-eqb, ne-eqb}
+use borrow.Author.Needs.{needs}
+use mir.Syntax.{w64}
+use mir.Val.{Fits}
+use Rattle.lists.specs.Columns.{_⊖_, Below}
+use Rattle.lists.proofs.Columns.{_!_, at-⊖, length-rowwise}
+use Rattle.cover.specs.Blocks.{Raised, inColumn, Room}
+
+pub split : (k n : ℕ) → (k < n) ⊎ (n ≤ k)
+split k n = go (ltb k n) refl
+  where
+    go : (b : Bool) → ltb k n ≡ b → (k < n) ⊎ (n ≤ k)
+    go true e = inl (ltb-true k n e)
+    go false e = inr (ltb-false k n e)
+
+-- a list taken up to n, and a figure past n
+pub past-take : (n : ℕ) (p : List ℕ) (k : ℕ) → n ≤ k → take n p ! k ≡ 0
+past-take n p k h = List·getD-eq-default (take n p) 0 (let e = length-take n p in omega arith)
+
+-- one more: at the row itself and at another
+next-here : (p : List ℕ) (i : ℕ) → take (i + 1) p ! i ≡ p ! i
+next-here p i = getD-take (i + 1) p i 0 (omega arith)
+
+next-there : (p : List ℕ) (i k : ℕ) → (k ≡ i → ⊥) → take (i + 1) p ! k ≡ take i p ! k
+next-there p i k ne = ⊎-elim below above (split k i)
+  where
+    below : k < i → take (i + 1) p ! k ≡ take i p ! k
+    below h = getD-take (i + 1) p k 0 (omega arith) ∙ sym (getD-take i p k 0 h)
+
+    above : i ≤ k → take (i + 1) p ! k ≡ take i p ! k
+    above h = past-take (i + 1) p k (omega arith) ∙ sym (past-take i p k h)
+
+same-or-not : (k i : ℕ) → (k ≡ i) ⊎ (k ≡ i → ⊥)
+same-or-not k i = ⊎-elim (λ h. inr (λ e. omega arith)) (λ h. ⊎-elim (λ g. inr (λ e. omega arith)) (λ g. inl (omega arith)) (split i k)) (split k i)
+
+nothing : (b : Bool) → _≡_ {A = ℕ} (cond b 0 0) 0
+nothing true = refl
+nothing false = refl
+
+-- a store that adds to one figure
+pub raised-set : (f h : ℕ → ℕ → ℕ) {before after : List ℕ} {at v : ℕ} (x : ℕ) → Raised f before after → at < length after → v ≡ after ! at + x
+    → ((i j : ℕ) → j < 4 → 4 * i + j ≡ at → h i j ≡ f i j + x)
+    → ((i j : ℕ) → j < 4 → (4 * i + j ≡ at → ⊥) → h i j ≡ f i j)
+    → Raised h before (set after at v)
+raised-set f h {before} {after} {at} {v} x r inside is here there =
+    record { same = length-set after at v ∙ r .same; by = λ i j k. ⊎-elim (hit i j k) (miss i j k) (same-or-not (4 * i + j) at) }
+  where
+    hit : (i j : ℕ) → j < 4 → 4 * i + j ≡ at → set after at v ! (4 * i + j) ≡ before ! (4 * i + j) + h i j
+    hit i j k e =
+        let a : set after at v ! (4 * i + j) ≡ v = rw e (getD-set-same after at v 0 inside) in
+        let b : after ! at ≡ before ! (4 * i + j) + f i j = rw (← e) (r .by i j k) in
+        let c = here i j k e in
+        omega arith
+
+    miss : (i j : ℕ) → j < 4 → (4 * i + j ≡ at → ⊥) → set after at v ! (4 * i + j) ≡ before ! (4 * i + j) + h i j
+    miss i j k e = getD-set-other after at (4 * i + j) v 0 e ∙ r .by i j k ∙ ap (λ y. before ! (4 * i + j) + y) (sym (there i j k e))
+
+-- after i of n rows
+pub record Handing (n column : ℕ) (part want₀ figures₀ want figures : List ℕ) (i : ℕ) : Type 0 where
+  pub turns : i ≤ n
+  pub same : length want ≡ length want₀
+  pub falls : (k : ℕ) → want ! k ≡ want₀ ! k - take i part ! k
+  pub rises : Raised (inColumn column (take i part)) figures₀ figures
+
+module _ {n column : ℕ} {part want₀ figures₀ : List ℕ} where
+  pub handing : Handing n column part want₀ figures₀ want₀ figures₀ 0
+  handing =
+      record {
+        turns = omega arith;
+        same = refl;
+        falls = λ k. omega arith;
+        rises = record { same = refl; by = λ i j h. let e = nothing (eqb j column) in omega arith };
+      }
+
+  pub handing-more : {want figures : List ℕ} {i : ℕ} → Handing n column part want₀ figures₀ want figures i → i < n
+      → n ≤ length want₀ → 4 * n ≤ length figures₀ → column < 4
+      → Handing n column part want₀ figures₀ (set want i (want ! i - part ! i))
+      (set figures (4 * i + column) (figures ! (4 * i + column) + part ! i)) (i + 1)
+  handing-more {want} {figures} {i} k h rows four-each inside =
+      record {
+        turns = omega arith;
+        same = length-set want i (want ! i - part ! i) ∙ k .same;
+        falls = λ m. ⊎-elim (hit m) (miss m) (same-or-not m i);
+        rises =
+            raised-set (inColumn column (take i part)) (inColumn column (take (i + 1) part)) (part ! i) (k .rises)
+            (let e = k .rises .same in omega arith) refl on off;
+      }
+    where
+      hit : (m : ℕ) → m ≡ i → set want i (want ! i - part ! i) ! m ≡ want₀ ! m - take (i + 1) part ! m
+      hit m e =
+          rw e (getD-set-same want i (want ! i - part ! i) 0 (let s = k .same in omega arith)
+          ∙ (let a = k .falls i in let b = past-take i part i (omega arith) in let c = next-here part i in omega arith))
+
+      miss : (m : ℕ) → (m ≡ i → ⊥) → set want i (want ! i - part ! i) ! m ≡ want₀ ! m - take (i + 1) part ! m
+      miss m e = getD-set-other want i m (want ! i - part ! i) 0 e ∙ k .falls m ∙ ap (λ x. want₀ ! m - x) (sym (next-there part i m e))
+
+      on : (a j : ℕ) → j < 4 → 4 * a + j ≡ 4 * i + column → inColumn column (take (i + 1) part) a j ≡ inColumn column (take i part) a j + part ! i
+      on a j l e =
+          let p : a ≡ i = omega arith in
+          let q : j ≡ column = omega arith in
+          rw (eq-eqb j column q, p) (let x = past-take i part i (omega arith) in let y = next-here part i in omega arith)
+
+      off : (a j : ℕ) → j < 4 → (4 * a + j ≡ 4 * i + column → ⊥) → inColumn column (take (i + 1) part) a j ≡ inColumn column (take i part) a j
+      off a j l e = ⊎-elim other same-row (same-or-not j column)
+        where
+          other : j ≡ column → inColumn column (take (i + 1) part) a j ≡ inColumn column (take i part) a j
+          other q = ap (λ x. cond (eqb j column) x 0) (next-there part i a (λ p. e (omega arith)))
+
+          same-row : (j ≡ column → ⊥) → inColumn column (take (i + 1) part) a j ≡ inColumn column (take i part) a j
+          same-row q = rw (ne-eqb j column q) refl
+
+  -- what the row and its figure are before they are written
+  pub handing-part : {want figures : List ℕ} {i : ℕ} → Handing n column part want₀ figures₀ want figures i → i < n
+      → Below (take n part) want₀ → part ! i ≤ want ! i
+  handing-part {i = i} k h below =
+      let a = k .falls i in let b = past-take i part i (omega arith) in let c = below i in let d = getD-take n part i 0 h in omega arith
+
+  pub handing-room : {want figures : List ℕ} {i : ℕ} → Handing n column part want₀ figures₀ want figures i → i < n → column < 4
+      → Below (take n part) want₀ → Room want₀ figures₀ → Fits w64 (figures ! (4 * i + column) + part ! i)
+  handing-room {figures = figures} {i = i} k h inside below room =
+      let a = k .rises .by i column inside in
+      let b : inColumn column (take i part) i column ≡ 0 = rw (past-take i part i (omega arith)) (nothing (eqb column column)) in
+      let c = room .at i column inside in let d = below i in let e = getD-take n part i 0 h in
+      record { fits = omega arith }
+
+  pub handed : {want figures : List ℕ} {i : ℕ} → Handing n column part want₀ figures₀ want figures i → n ≤ i → n ≤ length want₀ → want ≡ want₀ ⊖ take n part
+  handed {want} {i = i} k h rows =
+      let e : i ≡ n = let t = k .turns in omega arith in
+      ext-getD 0 want (want₀ ⊖ take n part)
+      (k .same ∙ (let a = length-rowwise _-_ 0 0 want₀ (take n part) in let b = length-take n part in omega arith))
+      (λ m _. k .falls m ∙ rw e (sym (at-⊖ want₀ (take n part) m)))
+
+  pub handed-raised : {want figures : List ℕ} {i : ℕ} → Handing n column part want₀ figures₀ want figures i → n ≤ i
+      → Raised (inColumn column (take n part)) figures₀ figures
+  handed-raised {figures = figures} {i = i} k h =
+      let e : i ≡ n = let t = k .turns in omega arith in
+      subst (λ (m : ℕ). Raised (inColumn column (take m part)) figures₀ figures) e (k .rises)
+
+pub ruleset handings = (handing, handing-more, handing-part, handing-room, handed, handed-raised, needs)

@@ -2,12 +2,12 @@
 use mathlib.Core.Path.{_≡_, refl, sym, ap, _∙_, subst}
 use mathlib.Core.Bool.{Bool, true, false, cond}
 use mathlib.Core.Logic.{_⊎_, inl, inr, ⊎-elim}
-use mathlib.Core.List.{List}
+use mathlib.Core.List.{List, []}
 use Prim.Native.Nat.{ℕ, _+_, _-_, _*_, _^_, _≤_, _<_, max}
 use native.Mathlib.Omega.{arith}
 use lib.Dec.{ltb, eqb}
 use lib.ListN.{length, getD, take, set, length-take, length-set, List·getD-eq-default}
-use lib.Seq.{getD-take, getD-set-same, getD-set-other, ext-getD}
+use lib.Seq.{take-all, getD-take, getD-set-same, getD-set-other, ext-getD}
 use borrow.Author.Tests.{ltb-true, ltb-false, eq-eqb, ne-eqb}
 use borrow.Author.Needs.{needs}
 use mir.Syntax.{w64}
@@ -47,6 +47,10 @@ nothing : (b : Bool) → _≡_ {A = ℕ} (cond b 0 0) 0
 nothing true = refl
 nothing false = refl
 
+-- a row without a part raises no figure
+pub no-rise : (column : ℕ) (parts : List ℕ) (i j : ℕ) → parts ! i ≡ 0 → inColumn column parts i j ≡ 0
+no-rise column parts i j e = rw e (nothing (eqb j column))
+
 -- a store that adds to one figure
 pub raised-set : (f h : ℕ → ℕ → ℕ) {before after : List ℕ} {at v : ℕ} (x : ℕ) → Raised f before after → at < length after → v ≡ after ! at + x
     → ((i j : ℕ) → j < 4 → 4 * i + j ≡ at → h i j ≡ f i j + x)
@@ -65,26 +69,26 @@ raised-set f h {before} {after} {at} {v} x r inside is here there =
     miss : (i j : ℕ) → j < 4 → (4 * i + j ≡ at → ⊥) → set after at v ! (4 * i + j) ≡ before ! (4 * i + j) + h i j
     miss i j k e = getD-set-other after at (4 * i + j) v 0 e ∙ r .by i j k ∙ ap (λ y. before ! (4 * i + j) + y) (sym (there i j k e))
 
--- after i of n rows
-pub record Handing (n column : ℕ) (part want₀ figures₀ want figures : List ℕ) (i : ℕ) : Type 0 where
-  pub turns : i ≤ n
+-- after i of the rows
+pub record Handing (column : ℕ) (part want₀ figures₀ want figures : List ℕ) (i : ℕ) : Type 0 where
+  pub turns : i ≤ length part
   pub same : length want ≡ length want₀
   pub falls : (k : ℕ) → want ! k ≡ want₀ ! k - take i part ! k
   pub rises : Raised (inColumn column (take i part)) figures₀ figures
 
-module _ {n column : ℕ} {part want₀ figures₀ : List ℕ} where
-  pub handing : Handing n column part want₀ figures₀ want₀ figures₀ 0
+module _ {column : ℕ} {part want₀ figures₀ : List ℕ} where
+  pub handing : Handing column part want₀ figures₀ want₀ figures₀ 0
   handing =
       record {
         turns = omega arith;
         same = refl;
         falls = λ k. omega arith;
-        rises = record { same = refl; by = λ i j h. let e = nothing (eqb j column) in omega arith };
+        rises = record { same = refl; by = λ i j h. let e = no-rise column [] i j refl in omega arith };
       }
 
-  pub handing-more : {want figures : List ℕ} {i : ℕ} → Handing n column part want₀ figures₀ want figures i → i < n
-      → n ≤ length want₀ → 4 * n ≤ length figures₀ → column < 4
-      → Handing n column part want₀ figures₀ (set want i (want ! i - part ! i))
+  pub handing-more : {want figures : List ℕ} {i : ℕ} → Handing column part want₀ figures₀ want figures i → i < length part
+      → length part ≤ length want₀ → 4 * length part ≤ length figures₀ → column < 4
+      → Handing column part want₀ figures₀ (set want i (want ! i - part ! i))
       (set figures (4 * i + column) (figures ! (4 * i + column) + part ! i)) (i + 1)
   handing-more {want} {figures} {i} k h rows four-each inside =
       record {
@@ -119,31 +123,31 @@ module _ {n column : ℕ} {part want₀ figures₀ : List ℕ} where
           same-row : (j ≡ column → ⊥) → inColumn column (take (i + 1) part) a j ≡ inColumn column (take i part) a j
           same-row q = rw (ne-eqb j column q) refl
 
-  -- what the row and its figure are before they are written
-  pub handing-part : {want figures : List ℕ} {i : ℕ} → Handing n column part want₀ figures₀ want figures i → i < n
-      → Below (take n part) want₀ → part ! i ≤ want ! i
-  handing-part {i = i} k h below =
-      let a = k .falls i in let b = past-take i part i (omega arith) in let c = below i in let d = getD-take n part i 0 h in omega arith
+  -- the row and its figure before they are written
+  pub handing-part : {want figures : List ℕ} {i : ℕ} → Handing column part want₀ figures₀ want figures i → Below part want₀ → part ! i ≤ want ! i
+  handing-part {i = i} k below = let a = k .falls i in let b = past-take i part i (omega arith) in let c = below i in omega arith
 
-  pub handing-room : {want figures : List ℕ} {i : ℕ} → Handing n column part want₀ figures₀ want figures i → i < n → column < 4
-      → Below (take n part) want₀ → Room want₀ figures₀ → Fits w64 (figures ! (4 * i + column) + part ! i)
-  handing-room {figures = figures} {i = i} k h inside below room =
+  pub handing-room : {want figures : List ℕ} {i : ℕ} → Handing column part want₀ figures₀ want figures i → column < 4
+      → Below part want₀ → Room want₀ figures₀ → Fits w64 (figures ! (4 * i + column) + part ! i)
+  handing-room {figures = figures} {i = i} k inside below room =
       let a = k .rises .by i column inside in
-      let b : inColumn column (take i part) i column ≡ 0 = rw (past-take i part i (omega arith)) (nothing (eqb column column)) in
-      let c = room .at i column inside in let d = below i in let e = getD-take n part i 0 h in
+      let b = no-rise column (take i part) i column (past-take i part i (omega arith)) in
+      let c = room .at i column inside in let d = below i in
       record { fits = omega arith }
 
-  pub handed : {want figures : List ℕ} {i : ℕ} → Handing n column part want₀ figures₀ want figures i → n ≤ i → n ≤ length want₀ → want ≡ want₀ ⊖ take n part
-  handed {want} {i = i} k h rows =
-      let e : i ≡ n = let t = k .turns in omega arith in
-      ext-getD 0 want (want₀ ⊖ take n part)
-      (k .same ∙ (let a = length-rowwise _-_ 0 0 want₀ (take n part) in let b = length-take n part in omega arith))
-      (λ m _. k .falls m ∙ rw e (sym (at-⊖ want₀ (take n part) m)))
+  -- at the end
+  whole : {want figures : List ℕ} {i : ℕ} → Handing column part want₀ figures₀ want figures i → length part ≤ i → take i part ≡ part
+  whole {i = i} k h = take-all i part h
 
-  pub handed-raised : {want figures : List ℕ} {i : ℕ} → Handing n column part want₀ figures₀ want figures i → n ≤ i
-      → Raised (inColumn column (take n part)) figures₀ figures
-  handed-raised {figures = figures} {i = i} k h =
-      let e : i ≡ n = let t = k .turns in omega arith in
-      subst (λ (m : ℕ). Raised (inColumn column (take m part)) figures₀ figures) e (k .rises)
+  pub handed : {want figures : List ℕ} {i : ℕ} → Handing column part want₀ figures₀ want figures i → length part ≤ i → length part ≤ length want₀
+      → want ≡ want₀ ⊖ part
+  handed {want} {i = i} k h rows =
+      ext-getD 0 want (want₀ ⊖ part)
+      (k .same ∙ (let a = length-rowwise _-_ 0 0 want₀ part in omega arith))
+      (λ m _. k .falls m ∙ ap (λ l. want₀ ! m - l ! m) (whole k h) ∙ sym (at-⊖ want₀ part m))
+
+  pub handed-raised : {want figures : List ℕ} {i : ℕ} → Handing column part want₀ figures₀ want figures i → length part ≤ i
+      → Raised (inColumn column part) figures₀ figures
+  handed-raised {figures = figures} k h = subst (λ l. Raised (inColumn column l) figures₀ figures) (whole k h) (k .rises)
 
 pub ruleset handings = (handing, handing-more, handing-part, handing-room, handed, handed-raised, needs)

@@ -3,3 +3,5 @@ pub mod Cover
 pub mod Blocks
 pub mod Handed
 pub mod Starts
+pub mod Slices
+pub mod Shares

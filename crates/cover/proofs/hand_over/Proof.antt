@@ -1,14 +1,15 @@
 -- `cover::hand_over` meets its contract. Assumes nothing.
 use Prim.Native.Nat.{_-_}
+use lib.ListN.{length}
 use Rattle.cover.proofs.Handed.{handings, Handing}
 use Rattle.cover.proofs.hand_over.Statement.{statement}
 use Rattle.cover.proofs.hand_over.Tie as tie
 
 abbrev Inv-loop : tie.InvT-loop
-Inv-loop n column part want₀ figures₀ i₀ want figures i = Handing n column part want₀ figures₀ want figures i
+Inv-loop column part want₀ figures₀ i₀ want figures i = Handing column part want₀ figures₀ want figures i
 
 abbrev μ-loop : tie.MeasureT-loop
-μ-loop n column part want₀ figures₀ i₀ want figures i = n - i
+μ-loop column part want₀ figures₀ i₀ want figures i = length part - i
 
 pub hand-over-spec : {M : Type 1} → statement M
 hand-over-spec =

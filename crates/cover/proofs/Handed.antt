@@ -23,24 +23,25 @@ split k n = go (ltb k n) refl
     go true e = inl (ltb-true k n e)
     go false e = inr (ltb-false k n e)
 
--- a list taken up to n, and a figure past n
-pub past-take : (n : ℕ) (p : List ℕ) (k : ℕ) → n ≤ k → take n p ! k ≡ 0
-past-take n p k h = List·getD-eq-default (take n p) 0 (let e = length-take n p in omega arith)
+module _ {A : Type 0} (d : A) where
+  -- past what was taken of a list there is nothing
+  pub past-take : (n : ℕ) (l : List A) (k : ℕ) → n ≤ k → getD (take n l) k d ≡ d
+  past-take n l k h = List·getD-eq-default (take n l) d (let e = length-take n l in omega arith)
 
--- one more: at the row itself and at another
-next-here : (p : List ℕ) (i : ℕ) → take (i + 1) p ! i ≡ p ! i
-next-here p i = getD-take (i + 1) p i 0 (omega arith)
+  -- one more is taken: it, and what was there
+  pub next-here : (l : List A) (i : ℕ) → getD (take (i + 1) l) i d ≡ getD l i d
+  next-here l i = getD-take (i + 1) l i d (omega arith)
 
-next-there : (p : List ℕ) (i k : ℕ) → (k ≡ i → ⊥) → take (i + 1) p ! k ≡ take i p ! k
-next-there p i k ne = ⊎-elim below above (split k i)
-  where
-    below : k < i → take (i + 1) p ! k ≡ take i p ! k
-    below h = getD-take (i + 1) p k 0 (omega arith) ∙ sym (getD-take i p k 0 h)
+  pub next-there : (l : List A) (i k : ℕ) → (k ≡ i → ⊥) → getD (take (i + 1) l) k d ≡ getD (take i l) k d
+  next-there l i k ne = ⊎-elim below above (split k i)
+    where
+      below : k < i → getD (take (i + 1) l) k d ≡ getD (take i l) k d
+      below h = getD-take (i + 1) l k d (omega arith) ∙ sym (getD-take i l k d h)
 
-    above : i ≤ k → take (i + 1) p ! k ≡ take i p ! k
-    above h = past-take (i + 1) p k (omega arith) ∙ sym (past-take i p k h)
+      above : i ≤ k → getD (take (i + 1) l) k d ≡ getD (take i l) k d
+      above h = past-take (i + 1) l k (omega arith) ∙ sym (past-take i l k h)
 
-same-or-not : (k i : ℕ) → (k ≡ i) ⊎ (k ≡ i → ⊥)
+pub same-or-not : (k i : ℕ) → (k ≡ i) ⊎ (k ≡ i → ⊥)
 same-or-not k i = ⊎-elim (λ h. inr (λ e. omega arith)) (λ h. ⊎-elim (λ g. inr (λ e. omega arith)) (λ g. inl (omega arith)) (split i k)) (split k i)
 
 nothing : (b : Bool) → _≡_ {A = ℕ} (cond b 0 0) 0
@@ -103,35 +104,35 @@ module _ {column : ℕ} {part want₀ figures₀ : List ℕ} where
       hit : (m : ℕ) → m ≡ i → set want i (want ! i - part ! i) ! m ≡ want₀ ! m - take (i + 1) part ! m
       hit m e =
           rw e (getD-set-same want i (want ! i - part ! i) 0 (let s = k .same in omega arith)
-          ∙ (let a = k .falls i in let b = past-take i part i (omega arith) in let c = next-here part i in omega arith))
+          ∙ (let a = k .falls i in let b = past-take 0 i part i (omega arith) in let c = next-here 0 part i in omega arith))
 
       miss : (m : ℕ) → (m ≡ i → ⊥) → set want i (want ! i - part ! i) ! m ≡ want₀ ! m - take (i + 1) part ! m
-      miss m e = getD-set-other want i m (want ! i - part ! i) 0 e ∙ k .falls m ∙ ap (λ x. want₀ ! m - x) (sym (next-there part i m e))
+      miss m e = getD-set-other want i m (want ! i - part ! i) 0 e ∙ k .falls m ∙ ap (λ x. want₀ ! m - x) (sym (next-there 0 part i m e))
 
       on : (a j : ℕ) → j < 4 → 4 * a + j ≡ 4 * i + column → inColumn column (take (i + 1) part) a j ≡ inColumn column (take i part) a j + part ! i
       on a j l e =
           let p : a ≡ i = omega arith in
           let q : j ≡ column = omega arith in
-          rw (eq-eqb j column q, p) (let x = past-take i part i (omega arith) in let y = next-here part i in omega arith)
+          rw (eq-eqb j column q, p) (let x = past-take 0 i part i (omega arith) in let y = next-here 0 part i in omega arith)
 
       off : (a j : ℕ) → j < 4 → (4 * a + j ≡ 4 * i + column → ⊥) → inColumn column (take (i + 1) part) a j ≡ inColumn column (take i part) a j
       off a j l e = ⊎-elim other same-row (same-or-not j column)
         where
           other : j ≡ column → inColumn column (take (i + 1) part) a j ≡ inColumn column (take i part) a j
-          other q = ap (λ x. cond (eqb j column) x 0) (next-there part i a (λ p. e (omega arith)))
+          other q = ap (λ x. cond (eqb j column) x 0) (next-there 0 part i a (λ p. e (omega arith)))
 
           same-row : (j ≡ column → ⊥) → inColumn column (take (i + 1) part) a j ≡ inColumn column (take i part) a j
           same-row q = rw (ne-eqb j column q) refl
 
   -- the row and its figure before they are written
   pub handing-part : {want figures : List ℕ} {i : ℕ} → Handing column part want₀ figures₀ want figures i → Below part want₀ → part ! i ≤ want ! i
-  handing-part {i = i} k below = let a = k .falls i in let b = past-take i part i (omega arith) in let c = below i in omega arith
+  handing-part {i = i} k below = let a = k .falls i in let b = past-take 0 i part i (omega arith) in let c = below i in omega arith
 
   pub handing-room : {want figures : List ℕ} {i : ℕ} → Handing column part want₀ figures₀ want figures i → column < 4
       → Below part want₀ → Room want₀ figures₀ → Fits w64 (figures ! (4 * i + column) + part ! i)
   handing-room {figures = figures} {i = i} k inside below room =
       let a = k .rises .by i column inside in
-      let b = no-rise column (take i part) i column (past-take i part i (omega arith)) in
+      let b = no-rise column (take i part) i column (past-take 0 i part i (omega arith)) in
       let c = room .at i column inside in let d = below i in
       record { fits = omega arith }
 

@@ -5,3 +5,4 @@ pub mod Handed
 pub mod Starts
 pub mod Slices
 pub mod Shares
+pub mod Serving

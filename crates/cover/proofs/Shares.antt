@@ -32,7 +32,7 @@ raise-nothing column ps figures z =
     record { same = refl; by = λ i j h. let a = no-rise column ps i j (z i) in omega arith }
 
 take-le : (n : ℕ) (l : List ℕ) (i : ℕ) → take n l ! i ≤ l ! i
-take-le n l i = ⊎-elim (λ h. le-of-eq (getD-take n l i 0 h)) (λ h. let a = past-take n l i h in omega arith) (split i n)
+take-le n l i = ⊎-elim (λ h. le-of-eq (getD-take n l i 0 h)) (λ h. let a = past-take 0 n l i h in omega arith) (split i n)
 
 module _ (n : ℕ) (want : List ℕ) (short : n ≤ length want) where
   pub parts-length : (t : ℕ) → length (share t (take n want)) ≡ n
@@ -96,7 +96,7 @@ slice-at a e p i h low = ⊎-elim below above (split i e)
         back = omega arith
 
     above : e ≤ i → take (e - a) (drop a p) ! (i - a) ≡ take e p ! i
-    above u = past-take (e - a) (drop a p) (i - a) (omega arith) ∙ sym (past-take e p i u)
+    above u = past-take 0 (e - a) (drop a p) (i - a) (omega arith) ∙ sym (past-take 0 e p i u)
 
 module _ {starts columns p want₀ figures₀ : List ℕ} (up : Rising starts (length want₀)) (sized : length p ≡ length want₀) (room : 4 * length want₀ ≤ length figures₀) where
   pub blocked : Blocked starts columns p want₀ figures₀ want₀ figures₀ 0
@@ -108,7 +108,7 @@ module _ {starts columns p want₀ figures₀ : List ℕ} (up : Rising starts (l
       }
     where
       none : (i : ℕ) → take (getD starts 0 0) p ! i ≡ 0
-      none i = past-take (getD starts 0 0) p i (let a = up .first in omega arith)
+      none i = past-take 0 (getD starts 0 0) p i (let a = up .first in omega arith)
 
   module _ {want figures : List ℕ} {s : ℕ} (k : Blocked starts columns p want₀ figures₀ want figures s) where
     pub same-want : length want ≡ length want₀
@@ -119,12 +119,12 @@ module _ {starts columns p want₀ figures₀ : List ℕ} (up : Rising starts (l
     want-kept : (i : ℕ) → getD starts s 0 ≤ i → want ! i ≡ want₀ ! i
     want-kept i h =
         ap (λ l. l ! i) (k .falls)
-        ∙ (let a = at-⊖ want₀ (take (getD starts s 0) p) i in let b = past-take (getD starts s 0) p i h in omega arith)
+        ∙ (let a = at-⊖ want₀ (take (getD starts s 0) p) i in let b = past-take 0 (getD starts s 0) p i h in omega arith)
 
     figures-kept : (i j : ℕ) → j < 4 → getD starts s 0 ≤ i → figures ! (4 * i + j) ≡ figures₀ ! (4 * i + j)
     figures-kept i j h low =
         let a = k .rises .by i j h in
-        let b = no-rise (getD columns (standingAt starts ! i - 1) 0) (take (getD starts s 0) p) i j (past-take (getD starts s 0) p i low) in
+        let b = no-rise (getD columns (standingAt starts ! i - 1) 0) (take (getD starts s 0) p) i j (past-take 0 (getD starts s 0) p i low) in
         omega arith
 
     module _ (h : s < 4) where
@@ -204,8 +204,8 @@ module _ {starts columns p want₀ figures₀ : List ℕ} (up : Rising starts (l
 
             above : e ≤ i → inColumn (columns ! s) (block starts p s) (i - a) j ≡ inColumns columns (standingAt starts) (take e p) i j
             above v =
-                no-rise (columns ! s) (block starts p s) (i - a) j (slice-at a e p i a≤e u ∙ past-take e p i v)
-                ∙ sym (no-rise (columns ! (standingAt starts ! i - 1)) (take e p) i j (past-take e p i v))
+                no-rise (columns ! s) (block starts p s) (i - a) j (slice-at a e p i a≤e u ∙ past-take 0 e p i v)
+                ∙ sym (no-rise (columns ! (standingAt starts ! i - 1)) (take e p) i j (past-take 0 e p i v))
 
         rises-at : (i j : ℕ) → j < 4 → new-figures ! (4 * i + j) ≡ figures₀ ! (4 * i + j) + inColumns columns (standingAt starts) (take e p) i j
         unfolding a e new-figures

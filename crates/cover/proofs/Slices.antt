@@ -50,6 +50,27 @@ module _ (starts : List ℕ) (n : ℕ) (up : Rising starts n) where
   unfolding standingAt b c d
   standing-length = let k = know in simp (length-append, length-replicate) (omega arith)
 
+  pub standing-le : (i : ℕ) → standingAt starts ! i ≤ 4
+  unfolding standingAt
+  standing-le =
+      both (rows 1) (rows 2 ++ (rows 3 ++ rows 4)) (all 1 (omega arith)) (both (rows 2) (rows 3 ++ rows 4) (all 2 (omega arith)) (both (rows 3) (rows 4) (all 3 (omega arith)) (all 4 (omega arith))))
+    where
+      rows : ℕ → List ℕ
+      rows s = replicate (blockRows starts s) s
+
+      same : (n t : ℕ) → t ≤ 4 → (i : ℕ) → replicate n t ! i ≤ 4
+      same zero t h i = omega arith
+      same (suc n) t h zero = h
+      same (suc n) t h (suc i) = same n t h i
+
+      all : (s : ℕ) → s ≤ 4 → (i : ℕ) → rows s ! i ≤ 4
+      all s h = same (blockRows starts s) s h
+
+      both : (x y : List ℕ) → ((i : ℕ) → x ! i ≤ 4) → ((i : ℕ) → y ! i ≤ 4) → (i : ℕ) → (x ++ y) ! i ≤ 4
+      both [] y f h i = h i
+      both (t ∷ x) y f h zero = f 0
+      both (t ∷ x) y f h (suc i) = both x y (λ i. f (suc i)) h i
+
   pub end-below : (s : ℕ) → s < 4 → getD starts (s + 1) 0 ≤ n
   unfolding b c d
   end-below zero h = let k = know in omega arith

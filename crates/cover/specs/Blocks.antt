@@ -2,9 +2,10 @@
 use Prim.Native.Nat.{ℕ, suc, _+_, _-_, _*_, _^_, _≤_, _<_}
 use mathlib.Core.Path.{_≡_}
 use mathlib.Core.Bool.{cond}
-use mathlib.Core.List.{List, [], _∷_, _++_}
+use mathlib.Core.List.{List, [], _∷_, _++_, map}
 use lib.Dec.{leb, eqb}
 use lib.ListN.{length, getD, replicate}
+use Rattle.lists.specs.Lists.{sum}
 
 -- how many rows, from the first on, stand in submarkets up to s
 unfoldable pub leading : ℕ → List ℕ → ℕ
@@ -42,6 +43,14 @@ inColumn column parts i j = cond (eqb j column) (getD parts i 0) 0
 -- .. to the column that its submarket is served from
 abbrev pub inColumns : List ℕ → List ℕ → List ℕ → ℕ → ℕ → ℕ
 inColumns columns subs parts i j = inColumn (getD columns (getD subs i 0 - 1) 0) parts i j
+
+-- each row's figure in column j rises by what it got from giver j, counted from 0
+abbrev pub gotBy : List (List ℕ) → ℕ → ℕ → ℕ
+gotBy got i j = getD (getD got j []) i 0
+
+-- no receiver is sent more than it needs
+abbrev pub SentWithin : List (List ℕ) → List ℕ → Type 0
+SentWithin table need = (s : ℕ) → sum (map (λ r. getD r s 0) table) ≤ getD need s 0
 
 -- each figure has room for all that its row wants
 pub record Room (want figures : List ℕ) : Type 0 where

@@ -5,9 +5,9 @@ ghost use Prim.Native.Nat.{_+_, _*_, _^_, _≤_, _<_};
 ghost use lib.ListN.{length, take, drop, getD};
 ghost use Rattle.lists.specs.Lists.{sum, Within};
 ghost use Rattle.lists.specs.Columns.{_⊕_, _⊖_, _⊓_, Below, four, byRow, totals};
-ghost use Rattle.sharing.specs.Sharing.{share};
+ghost use Rattle.sharing.specs.Sharing.{share, serve};
 ghost use Rattle.cover.specs.Cover.{portion, table, rest, supplied};
-ghost use Rattle.cover.specs.Blocks.{leading, blockStarts, standingAt, Rising, Raised, inColumn, inColumns, Room};
+ghost use Rattle.cover.specs.Blocks.{leading, blockStarts, standingAt, Rising, Raised, inColumn, inColumns, gotBy, SentWithin, Room};
 
 // The first row from row a on whose submarket is past s.
 fn block_end(s: u64, submarket: &[u64], a: usize) -> usize
@@ -126,5 +126,29 @@ fn share_blocks(
             &mut figures[4 * a..],
         );
         s = s + 1;
+    }
+}
+
+// Step 6, givers in order: what each sent is shared over the needs that are still open, which then fall.
+fn serve_rows(
+    starts: [usize; 5],
+    table: [[u64; 4]; 4],
+    need: [u64; 4],
+    want: &mut [u64],
+    part: &mut [u64],
+    figures: &mut [u64],
+)
+    requires { ⌜ Rising starts (length (now want)) × (length (now want) ≤ length (now part)) × (4 * length (now want) ≤ length (now figures)) ⌝ }
+    requires { ⌜ (need ≡ totals (standingAt starts) (now want)) × (sum (now want) < 2 ^ 62) × SentWithin table need × Room (now want) (now figures) ⌝ }
+    ensures { λ _. ⌜ Raised (gotBy (serve (portion share (standingAt starts)) (now (want .entry)) table)) (now (figures .entry)) (now (figures .exit)) ⌝ }
+{
+    let mut still = need;
+    let mut g: usize = 0;
+    while g < 4 {
+        let row = table[g];
+        share_blocks(starts, row, still, [g; 4], want, part, figures);
+        let fallen = sharing::less(still, row);
+        still = fallen;
+        g = g + 1;
     }
 }

@@ -23,7 +23,7 @@ use lib.Dec.{eqb}
 module _ {rule : Rule} (L : Lawful rule) where
   module _ (subs : List ℕ) where
     -- each submarket's amount is no more than the weights of its rows
-    abbrev Fits : List ℕ → List ℕ → Type 0
+    abbrev pub Fits : List ℕ → List ℕ → Type 0
     Fits amounts ws = (s : ℕ) → 1 ≤ s → s ≤ 4 → at s amounts 0 ≤ sum (within s subs ws)
 
     module _ (amounts ws : List ℕ) (fits : Fits amounts ws) where
@@ -44,7 +44,7 @@ module _ {rule : Rule} (L : Lawful rule) where
           (q-under 1 (omega arith) (omega arith) i) (q-under 2 (omega arith) (omega arith) i)
           (q-under 3 (omega arith) (omega arith) i) (q-under 4 (omega arith) (omega arith) i)
 
-      portion-under : (i : ℕ) → portion rule subs amounts ws ! i ≤ ws ! i
+      pub portion-under : (i : ℕ) → portion rule subs amounts ws ! i ≤ ws ! i
       portion-under i = let a = at-portion i in let b = only-own i in omega arith
 
       portion-within : (s : ℕ) → 1 ≤ s → s ≤ 4 → (i : ℕ) → within s subs (portion rule subs amounts ws) ! i ≡ q s ! i
@@ -53,7 +53,7 @@ module _ {rule : Rule} (L : Lawful rule) where
           go : (s : ℕ) → 1 ≤ s → s ≤ 4 → inside s (subs ! i) (q 1 ! i + q 2 ! i + q 3 ! i + q 4 ! i) ≡ q s ! i
           go = each _ (only-own i .in1) (only-own i .in2) (only-own i .in3) (only-own i .in4)
 
-      portion-adds : (s : ℕ) → 1 ≤ s → s ≤ 4 → sum (within s subs (portion rule subs amounts ws)) ≡ at s amounts 0
+      pub portion-adds : (s : ℕ) → 1 ≤ s → s ≤ 4 → sum (within s subs (portion rule subs amounts ws)) ≡ at s amounts 0
       unfolding q
       portion-adds s l h =
           sum-ext (within s subs (portion rule subs amounts ws)) (q s) (portion-within s l h)

@@ -10,7 +10,7 @@ use Rattle.lists.specs.Lists.{sum}
 use Rattle.lists.proofs.Columns.{_!_, length-rowwise, at-⊕, at-⊖, at-⊓, sum-⊕, sum-⊖, sum-le, sum-ext, sum-tight, sum-nil, sum-joined, at-map-sum, joined-four, transpose-at, transpose-sum, each, at-within, within-le, within-⊖, within-nil, within-joined, Sited, sited-le, totals-sum, totals-ext, totals-is, at-totals, at-joined, Only, only}
 use Rattle.lists.proofs.Sums.{at-le-sum}
 use Rattle.lists.proofs.Questions.{every-all, at-most-all}
-use Rattle.sharing.specs.Laws.{Lawful}
+use Rattle.sharing.specs.Laws.{Lawful, rowSum}
 use Rattle.sharing.specs.Sharing.{Rule, serve, transfer}
 use Rattle.sharing.specs.Calls.{apart}
 use Rattle.sharing.proofs.Sharing.{adds-le}
@@ -364,6 +364,26 @@ module _ {rule : Rule} (L : Lawful rule) (subs have want : List ℕ) (four-have 
         fourGivers = four-got;
         fourLeft = four-rest;
       }
+
+  -- what the code goes by: the table has four rows, no receiver is sent more than its open need, and a row adds up to its four places
+  pub four-table : length (table rule subs have want) ≡ 4
+  four-table = four-rows
+
+  pub sent-is : (r : ℕ) → sum (map (λ g. g ! r) (table rule subs have want)) ≡ (totals subs want ⊖ own rule subs have want) ! r
+  unfolding open′ need
+  sent-is r =
+      sum-ext (map (λ g. g ! r) (table rule subs have want)) (getD cols r [])
+      (λ g. List·getD-map (λ g. g ! r) (table rule subs have want) g [] ∙ at-table g r)
+      ∙ col-adds r
+
+  pub row-is : (g : ℕ) → rowSum (table rule subs have want) g ≡ sum (getD (table rule subs have want) g [])
+  row-is g =
+      sym (sum-row g ∙ joined-four cols four-cols g
+      ∙ (let a = at-table g 0 in let b = at-table g 1 in let c = at-table g 2 in let d = at-table g 3 in omega arith))
+
+  pub row-under : (g : ℕ) → rowSum (table rule subs have want) g ≤ (have ⊖ own rule subs have want) ! g
+  unfolding left
+  row-under g = let a = row-is g in let b = sum-row g in let c = cols-under g in omega arith
 
   -- the transfer step's question is answered yes, where no more than 2 × 10^9 is at hand
   pub transfer-asked : sum have ≤ 2 * 10 ^ 9 → Transferable (have ⊖ own rule subs have want) (totals subs want ⊖ own rule subs have want)

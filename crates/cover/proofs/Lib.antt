@@ -6,3 +6,4 @@ pub mod Starts
 pub mod Slices
 pub mod Shares
 pub mod Serving
+pub mod Meeting

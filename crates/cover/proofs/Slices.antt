@@ -18,6 +18,28 @@ use Rattle.cover.proofs.Blocks.{Blocks, cut₁, cut₂, cut₃, cut₄,
 abbrev pub block : List ℕ → List ℕ → ℕ → List ℕ
 block starts l s = take (getD starts (s + 1) 0 - getD starts s 0) (drop (getD starts s 0) l)
 
+-- figures of one value, and of two lists one behind the other
+same-most : (n t : ℕ) → t ≤ 4 → (i : ℕ) → replicate n t ! i ≤ 4
+same-most zero t h i = omega arith
+same-most (suc n) t h zero = h
+same-most (suc n) t h (suc i) = same-most n t h i
+
+same-least : (n t : ℕ) → 1 ≤ t → (i : ℕ) → i < length (replicate n t) → 1 ≤ replicate n t ! i
+same-least zero t h i l = absurd (omega arith)
+same-least (suc n) t h zero l = h
+same-least (suc n) t h (suc i) l = same-least n t h i (omega arith)
+
+at-most : (x y : List ℕ) → ((i : ℕ) → x ! i ≤ 4) → ((i : ℕ) → y ! i ≤ 4) → (i : ℕ) → (x ++ y) ! i ≤ 4
+at-most [] y f h i = h i
+at-most (t ∷ x) y f h zero = f 0
+at-most (t ∷ x) y f h (suc i) = at-most x y (λ i. f (suc i)) h i
+
+at-least : (x y : List ℕ) → ((i : ℕ) → i < length x → 1 ≤ x ! i) → ((i : ℕ) → i < length y → 1 ≤ y ! i)
+    → (i : ℕ) → i < length (x ++ y) → 1 ≤ (x ++ y) ! i
+at-least [] y f h i l = h i l
+at-least (t ∷ x) y f h zero l = f 0 (omega arith)
+at-least (t ∷ x) y f h (suc i) l = at-least x y (λ i k. f (suc i) (omega arith)) h i (omega arith)
+
 module _ (starts : List ℕ) (n : ℕ) (up : Rising starts n) where
   b : ℕ
   b = getD starts 1 0
@@ -50,26 +72,29 @@ module _ (starts : List ℕ) (n : ℕ) (up : Rising starts n) where
   unfolding standingAt b c d
   standing-length = let k = know in simp (length-append, length-replicate) (omega arith)
 
+  -- the submarkets are 1 to 4
   pub standing-le : (i : ℕ) → standingAt starts ! i ≤ 4
   unfolding standingAt
-  standing-le =
-      both (rows 1) (rows 2 ++ (rows 3 ++ rows 4)) (all 1 (omega arith)) (both (rows 2) (rows 3 ++ rows 4) (all 2 (omega arith)) (both (rows 3) (rows 4) (all 3 (omega arith)) (all 4 (omega arith))))
+  standing-le = at-most (rows 1) (rows 2 ++ (rows 3 ++ rows 4)) (under 1 (omega arith)) (at-most (rows 2) (rows 3 ++ rows 4) (under 2 (omega arith)) (at-most (rows 3) (rows 4) (under 3 (omega arith)) (under 4 (omega arith))))
     where
       rows : ℕ → List ℕ
       rows s = replicate (blockRows starts s) s
 
-      same : (n t : ℕ) → t ≤ 4 → (i : ℕ) → replicate n t ! i ≤ 4
-      same zero t h i = omega arith
-      same (suc n) t h zero = h
-      same (suc n) t h (suc i) = same n t h i
+      under : (s : ℕ) → s ≤ 4 → (i : ℕ) → rows s ! i ≤ 4
+      under s h = same-most (blockRows starts s) s h
 
-      all : (s : ℕ) → s ≤ 4 → (i : ℕ) → rows s ! i ≤ 4
-      all s h = same (blockRows starts s) s h
+  pub standing-ge : (i : ℕ) → i < n → 1 ≤ standingAt starts ! i
+  unfolding standingAt
+  standing-ge i h = all i (let a = standing-length in omega arith)
+    where
+      rows : ℕ → List ℕ
+      rows s = replicate (blockRows starts s) s
 
-      both : (x y : List ℕ) → ((i : ℕ) → x ! i ≤ 4) → ((i : ℕ) → y ! i ≤ 4) → (i : ℕ) → (x ++ y) ! i ≤ 4
-      both [] y f h i = h i
-      both (t ∷ x) y f h zero = f 0
-      both (t ∷ x) y f h (suc i) = both x y (λ i. f (suc i)) h i
+      over : (s : ℕ) → 1 ≤ s → (i : ℕ) → i < length (rows s) → 1 ≤ rows s ! i
+      over s h = same-least (blockRows starts s) s h
+
+      all : (i : ℕ) → i < length (rows 1 ++ (rows 2 ++ (rows 3 ++ rows 4))) → 1 ≤ (rows 1 ++ (rows 2 ++ (rows 3 ++ rows 4))) ! i
+      all = at-least (rows 1) (rows 2 ++ (rows 3 ++ rows 4)) (over 1 (omega arith)) (at-least (rows 2) (rows 3 ++ rows 4) (over 2 (omega arith)) (at-least (rows 3) (rows 4) (over 3 (omega arith)) (over 4 (omega arith))))
 
   pub end-below : (s : ℕ) → s < 4 → getD starts (s + 1) 0 ≤ n
   unfolding b c d

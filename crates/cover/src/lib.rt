@@ -1,11 +1,12 @@
 // Steps 4 to 6 of an hour, and step 7 again: what four submarkets have meets what the plants want.
 ghost use mathlib.Core.Path.{_≡_};
 ghost use mathlib.Core.List.{List, map};
-ghost use Prim.Native.Nat.{_+_, _*_, _^_, _≤_, _<_};
+ghost use Prim.Native.Nat.{_+_, _-_, _*_, _^_, _≤_, _<_, min};
 ghost use lib.ListN.{length, take, drop, getD};
 ghost use Rattle.lists.specs.Lists.{sum, Within};
 ghost use Rattle.lists.specs.Columns.{_⊕_, _⊖_, _⊓_, Below, four, byRow, totals};
 ghost use Rattle.sharing.specs.Sharing.{share, serve};
+ghost use Rattle.sharing.specs.Laws.{rowSum};
 ghost use Rattle.cover.specs.Cover.{portion, table, rest, supplied};
 ghost use Rattle.cover.specs.Blocks.{leading, blockStarts, standingAt, Rising, Raised, inColumn, inColumns, gotBy, SentWithin, Room};
 
@@ -151,4 +152,66 @@ fn serve_rows(
         still = fallen;
         g = g + 1;
     }
+}
+
+fn smaller(a: u64, b: u64) -> u64
+    ensures { λ r. ⌜ r ≡ min a b ⌝ }
+{
+    if a < b { a } else { b }
+}
+
+// Step 4: own cover of each submarket, the smaller of what it has and what it needs.
+fn own_of(have: [u64; 4], need: [u64; 4]) -> [u64; 4]
+    ensures { λ r. ⌜ r ≡ have ⊓ need ⌝ }
+{
+    let a = smaller(have[0], need[0]);
+    let b = smaller(have[1], need[1]);
+    let c = smaller(have[2], need[2]);
+    let d = smaller(have[3], need[3]);
+    [a, b, c, d]
+}
+
+// What is left to each submarket after what it sent.
+fn rest_of(left: [u64; 4], table: [[u64; 4]; 4]) -> [u64; 4]
+    requires { ⌜ Below (four (λ s. rowSum table (s - 1))) left × (sum left < 2 ^ 62) ⌝ }
+    ensures { λ r. ⌜ r ≡ left ⊖ four (λ s. rowSum table (s - 1)) ⌝ }
+{
+    let a = sharing::row_sum(table, 0);
+    let b = sharing::row_sum(table, 1);
+    let c = sharing::row_sum(table, 2);
+    let d = sharing::row_sum(table, 3);
+    sharing::less(left, [a, b, c, d])
+}
+
+// What steps 4 to 6 answer: the transfer table, and what is left to each submarket afterwards.
+pub struct Met {
+    pub table: sharing::Table,
+    pub rest: [u64; 4],
+}
+
+// Steps 4 to 6, and step 7 again. What the four submarkets have meets what the rows want: own cover, the transfer table, and what the rows
+// get by it, added to each row's four figures. want and part are used up.
+pub fn meet(
+    starts: [usize; 5],
+    have: [u64; 4],
+    want: &mut [u64],
+    part: &mut [u64],
+    figures: &mut [u64],
+) -> Met
+    requires { ⌜ Rising starts (length (now want)) × (length (now want) ≤ length (now part)) × (4 * length (now want) ≤ length (now figures)) ⌝ }
+    requires { ⌜ (sum have ≤ 2 * 10 ^ 9) × (sum (now want) ≤ sum have) × Within (now figures) (2 ^ 62) ⌝ }
+    ensures { λ r. ⌜ r .table .rows ≡ table share (standingAt starts) have (now (want .entry)) ⌝ }
+    ensures { λ r. ⌜ r .rest ≡ rest share (standingAt starts) have (now (want .entry)) ⌝ }
+    ensures { λ r. ⌜ now (figures .exit) ≡ now (figures .entry) ⊕ byRow 0 (four (supplied share (standingAt starts) have (now (want .entry)))) ⌝ }
+{
+    let need = block_sums(starts, want);
+    let own = own_of(have, need);
+    share_blocks(starts, own, need, [0, 1, 2, 3], want, part, figures);
+    let left = sharing::less(have, own);
+    let still = sharing::less(need, own);
+    let rows = sharing::transfer_step(left, still);
+    serve_rows(starts, rows, still, want, part, figures);
+    let rest = rest_of(left, rows);
+    let table = sharing::table_of(rows);
+    Met { table, rest }
 }

@@ -1,6 +1,9 @@
 // The month and its calls (document 01, 'Calls' and 'The questions').
 use sharing::Table;
 
+pub mod close;
+pub mod questions;
+
 // A month is blank, open or closed.
 pub enum Stage {
     Blank,

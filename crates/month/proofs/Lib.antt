@@ -1,3 +1,4 @@
--- The ledger adds up over the hours, and demand 3; the rows' questions.
+-- The ledger adds up over the hours, and demand 3; what answered questions tell; the rows' questions.
 pub mod Sums
+pub mod Asked
 pub mod Rows

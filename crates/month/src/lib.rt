@@ -2,6 +2,7 @@
 use sharing::Table;
 
 pub mod close;
+pub mod open;
 pub mod questions;
 
 // A month is blank, open or closed.

@@ -4,6 +4,7 @@ use sharing::Table;
 pub mod close;
 pub mod open;
 pub mod questions;
+pub mod settle;
 
 // A month is blank, open or closed.
 pub enum Stage {

@@ -1,0 +1,60 @@
+// Settle (document 01, 'Calls').
+use crate::Month;
+use crate::questions::MOST;
+use crate::questions::is_open;
+use crate::questions::sizes_number;
+use crate::questions::tables_number;
+use crate::questions::total;
+ghost use mathlib.Core.Path.{_≡_};
+ghost use Prim.Native.Nat.{_≤_};
+ghost use lib.ListN.{length};
+ghost use Rattle.hour.specs.Table.{plantsOf, Equal};
+ghost use Rattle.month.specs.Questions.{ownNumber, meteredNumber};
+
+// 12, then 2 to 4 for the month's own P, H and TEO, and 13 of the rows and the profile figures lent.
+pub fn own_number(month: Month, rows: u64, figures: u64) -> u64
+    ensures { λ r. ⌜ r ≡ ownNumber month rows figures ⌝ }
+{
+    let stage = month.stage;
+    if !is_open(stage) {
+        return 12;
+    }
+    let no = sizes_number(month.plants, month.periods, month.tariff);
+    if no != 0 {
+        return no;
+    }
+    if rows != month.plants {
+        return 13;
+    }
+    if figures != month.periods {
+        return 13;
+    }
+    0
+}
+
+// 14 to 18, with `lent` figures in the allotment list, of a month whose P is in limits and whose profile has H figures.
+pub fn metered_number(month: Month, profile: &[u64], metered: &[u64], lent: u64) -> u64
+    requires { ⌜ (month .plants ≤ 512) × (length (now profile) ≡ month .periods) ⌝ }
+    ensures { λ r. ⌜ r ≡ meteredNumber month (now (profile .entry)) (now (metered .entry)) lent ⌝ }
+{
+    if month.due < 1 {
+        return 14;
+    }
+    if month.periods < month.due {
+        return 14;
+    }
+    if metered.len() as u64 != month.plants {
+        return 15;
+    }
+    if !lists::at_most(MOST, metered) {
+        return 16;
+    }
+    let at = month.due as usize - 1;
+    if total(metered) != profile[at] {
+        return 17;
+    }
+    if lent != 4 * month.plants {
+        return 18;
+    }
+    0
+}

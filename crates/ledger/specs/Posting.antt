@@ -17,6 +17,19 @@ hourFigures allotment nets tariff = record { allotted = allotment; accounts = ac
 pub record Near (l : List ℤ) (bound : ℕ) : Type 0 where
   pub at : (i : ℕ) → natAbs (getD l i (pos 0)) ≤ bound
 
+-- figures of the ledger, and as many of an hour to be added to them
+pub record Addable (figures more : List ℕ) : Type 0 where
+  pub same : length figures ≡ length more
+  pub ledger : Within figures (1488 * 10 ^ 9)
+  pub hour : Within more (2 * 10 ^ 9)
+
+-- accounts of the ledger, and a net for each row, to be added at a rate
+pub record Payable (accounts nets : List ℤ) (rate : ℕ) : Type 0 where
+  pub rows : length accounts ≡ accountsWidth * length nets
+  pub ledger : Near accounts (1488 * 10 ^ 13)
+  pub hour : Near nets (4 * 10 ^ 9)
+  pub low : rate ≤ 10000
+
 -- an hour that may be added to a ledger: the ledger is in bounds, the lists have its lengths, the figures are those that an hour can have
 pub record Postable (l : Ledger) (allotment : List ℕ) (nets : List ℤ) (tariff : ℕ) : Type 0 where
   pub inside : inBounds l ≡ true

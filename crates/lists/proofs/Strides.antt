@@ -8,18 +8,18 @@
 --   stride-halted, stride-passed.
 --   A loop that sums: `Gathering w j l i s`; the laws are gathering, gathering-more, gathering-le, gathered.
 -- Assumes nothing.
-use mathlib.Core.Path.{_≡_, refl, sym, ap, _∙_}
+use mathlib.Core.Path.{_≡_, refl, sym, ap, _∙_, subst}
 use mathlib.Core.Bool.{Bool, true, false, _&&_}
 use mathlib.Core.List.{List, [], _∷_}
-use Prim.Native.Nat.{ℕ, zero, suc, _+_, _-_, _*_, _≤_, _<_}
-use native.Mathlib.Nat.{add-zero, zero-add}
+use Prim.Native.Nat.{ℕ, zero, suc, _+_, _-_, _*_, _/_, _%_, _≤_, _<_}
+use native.Mathlib.Nat.{add-zero, zero-add, mod-lt, div-add-mod'}
 use native.Mathlib.Omega.{arith}
 use lib.ListN.{length, getD, drop, drop-of-length-le}
 use lib.Seq.{drop-cons, drop-drop}
 use Rattle.lists.specs.Lists.{sum, every, Within}
 use Rattle.lists.specs.Columns.{column}
 use Rattle.lists.proofs.Questions.{at-most-all, sum-at-most}
-use Rattle.lists.proofs.Rows.{column-skip}
+use Rattle.lists.proofs.Rows.{column-skip, column-at}
 
 module _ {A : Type 0} where
   pub stride : (w j : ℕ) (l : List A) → column w j l ≡ column w 0 (drop j l)
@@ -94,3 +94,9 @@ column-le w (suc j) (x ∷ l) = omega (arith, column-le w j l)
 
 pub column-within : (w j : ℕ) (l : List ℕ) (b : ℕ) → Within l b → sum (column w j l) ≤ length l * b
 column-within w j l b h = omega (arith, column-le w j l, sum-at-most l b (at-most-all l b (h .at)))
+
+-- what holds of every figure of every column holds of every figure of the list
+pub by-columns : {A : Type 0} (P : A → Type 0) (w : ℕ) → 0 < w → (l : List A) (d : A) → ((j : ℕ) → j < w → (k : ℕ) → P (getD (column w j l) k d)) → (i : ℕ) → P (getD l i d)
+by-columns P w p l d h i =
+    let place : i % w + i / w * w ≡ i = omega (arith, div-add-mod' i w) in
+    subst P (column-at w (i % w) p l (i / w) d ∙ ap (λ (k : ℕ). getD l k d) place) (h (i % w) (mod-lt i p) (i / w))

@@ -52,10 +52,14 @@ unfolding firstNo
 asked true n qs t e = (refl, e)
 asked false n qs t e = absurd (subst (λ (k : ℕ). T (ltb 0 k)) e t)
 
+pub then-zero : (n m : ℕ) → n then m ≡ 0 → (n ≡ 0) × (m ≡ 0)
+unfolding _then_
+then-zero zero m e = (refl, e)
+then-zero (suc n) m e = let z : ⊥ = omega arith in absurd z
+
 pub parted : (n : ℕ) (qs : List Question) → firstNo (part n ∷ qs) ≡ 0 → (n ≡ 0) × (firstNo qs ≡ 0)
-unfolding firstNo _then_
-parted zero qs e = (refl, e)
-parted (suc n) qs e = let z : ⊥ = omega arith in absurd z
+unfolding firstNo
+parted n qs e = then-zero n (firstNo qs) e
 
 pub both : (a b : Bool) → (a && b) ≡ true → (a ≡ true) × (b ≡ true)
 both true b e = (refl, e)

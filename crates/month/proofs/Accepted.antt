@@ -1,0 +1,73 @@
+-- What an accepted call tells: the month's stage, and that the hour of an accepted settle is sound. Assumes nothing.
+use mathlib.Core.Path.{_≡_, sym, ap, _∙_}
+use mathlib.Core.Bool.{true, not}
+use Prim.Native.Nat.{ℕ, zero, suc, _≤_, _<_}
+use native.Mathlib.Omega.{arith}
+use native.Mathlib.Nat.{le-of-suc-le-suc}
+use mathlib.Core.List.{List, [], _∷_, map}
+use borrow.Author.Tests.{leb-true, eqb-true}
+use lib.Dec.{leb, eqb}
+use lib.ListN.{length, getD, length-map}
+use Rattle.lists.specs.Questions.{_then_, firstNo}
+use Rattle.lists.proofs.Questions.{asked, parted, both, limits, then-zero}
+use Rattle.lists.proofs.Columns.{_!_}
+use Rattle.sharing.proofs.Sharing.{share-lawful}
+use Rattle.cover.specs.Cover.{Standing}
+use Rattle.hour.specs.declared.Plant.{Plant}
+use Rattle.hour.specs.Hour.{hourOf, submarkets}
+use Rattle.hour.proofs.Hour.{Sound}
+use Rattle.ledger.specs.Ledger.{Ledger}
+use Rattle.month.specs.declared.Month.{Month}
+use Rattle.month.specs.Questions.{isOpen, isBlank, placed, rowNumber, rowsNumber, tablesNumber, ownNumber, meteredNumber, settleNumber, closeNumber, balanceNumber}
+
+abbrev subs : List Plant → List ℕ
+subs ps = map (λ (p : Plant). p .submarket) ps
+
+-- accepted rows stand by submarket
+pub rows-standing : (s n : ℕ) (ps : List Plant) → rowsNumber s n ps ≡ 0 → Standing s (subs ps)
+unfolding rowsNumber rowNumber placed
+rows-standing s n [] e = tt
+rows-standing s n (p ∷ ps) e =
+    let f = then-zero _ _ e in
+    let g = both _ _ (asked _ _ _ tt (f .0) .0) in
+    let k = limits _ _ _ (g .0) in
+    (leb-true s (p .submarket) (g .1), k .0, k .1, rows-standing (p .submarket) (p .number) ps (f .1))
+
+-- ... in submarkets 1 to 4
+standing-placed : (s : ℕ) (ts : List ℕ) → Standing s ts → (i : ℕ) → i < length ts → (1 ≤ ts ! i) × (ts ! i ≤ 4)
+standing-placed s [] e i h = absurd (omega arith)
+standing-placed s (t ∷ ts) e zero h = (e .1, e .2)
+standing-placed s (t ∷ ts) e (suc i) h = standing-placed t ts (e .3) i (le-of-suc-le-suc h)
+
+-- a settle call that is accepted: the month is open, and the hour is sound, whatever its period
+pub record Settles (m : Month) (plants : List Plant) (profile metered : List ℕ) : Type 0 where
+  pub isOpened : isOpen (m .stage) ≡ true
+  pub sound : (k : ℕ) → Sound (hourOf plants profile metered k)
+
+pub settle-accepted : (m : Month) (plants : List Plant) (profile metered lent : List ℕ) (l : Ledger)
+    → settleNumber m plants profile metered lent l ≡ 0 → Settles m plants profile metered
+unfolding settleNumber ownNumber tablesNumber meteredNumber submarkets hourOf
+settle-accepted m plants profile metered lent l e =
+    let q = parted _ _ e in
+    let own = q .0 in
+    let open′ = asked _ _ _ tt own in
+    let many = both _ _ (asked _ _ _ tt (parted _ _ (open′ .1) .1) .0) .0 in
+    let tables = parted _ _ (q .1) in
+    let rows = rows-standing 0 0 plants (parted _ _ (tables .0) .0) in
+    let count = asked _ _ _ tt (asked _ _ _ tt (parted _ _ (tables .1) .0) .1) .0 in
+    record {
+      isOpened = open′ .0;
+      sound = λ k. record {
+        lawful = share-lawful;
+        placed = λ i h. standing-placed 0 (subs plants) rows i (rw length-map h);
+        metered = eqb-true (length metered) (m .plants) count ∙ sym (eqb-true (length plants) (m .plants) many);
+      };
+    }
+
+pub close-accepted : (m : Month) → closeNumber m ≡ 0 → isOpen (m .stage) ≡ true
+unfolding closeNumber
+close-accepted m e = asked _ _ _ tt e .0
+
+pub balance-accepted : (m : Month) (l : Ledger) → balanceNumber m l ≡ 0 → not (isBlank (m .stage)) ≡ true
+unfolding balanceNumber
+balance-accepted m l e = asked _ _ _ tt e .0

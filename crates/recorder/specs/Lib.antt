@@ -1,0 +1,2 @@
+-- Answers in the form that C takes.
+pub mod Answers

@@ -10,6 +10,7 @@ ghost use Prim.Native.Nat.{_≤_};
 ghost use lib.ListN.{length};
 ghost use Rattle.hour.specs.Table.{plantsOf, Equal};
 ghost use Rattle.month.specs.Questions.{ownNumber, meteredNumber};
+ghost use Rattle.month.specs.Steps.{inputsNumber};
 
 // 12, then 2 to 4 for the month's own P, H and TEO, and 13 of the rows and the profile figures lent.
 pub fn own_number(month: Month, rows: u64, figures: u64) -> u64
@@ -57,4 +58,42 @@ pub fn metered_number(month: Month, profile: &[u64], metered: &[u64], lent: u64)
         return 18;
     }
     0
+}
+
+// 12 to 18: all that settle asks before it works the hour.
+pub fn inputs_number(
+    month: Month,
+    submarket: &[u64],
+    number: &[u64],
+    guarantee: &[u64],
+    loss: &[u64],
+    availability: &[u64],
+    profile: &[u64],
+    metered: &[u64],
+    lent: u64,
+    allotted: &[u64],
+    accounts: &[i64],
+) -> u64
+    requires { ⌜ Equal (length (now submarket)) (now number) (now guarantee) (now loss) (now availability) ⌝ }
+    ensures { λ r. ⌜ r ≡ inputsNumber month (plantsOf (now (submarket .entry)) (now (number .entry)) (now (guarantee .entry)) (now (loss .entry)) (now (availability .entry))) (now (profile .entry)) (now (metered .entry)) lent (record { allotted = now (allotted .entry); accounts = now (accounts .entry) }) ⌝ }
+{
+    let no = own_number(month, submarket.len() as u64, profile.len() as u64);
+    if no != 0 {
+        return no;
+    }
+    let no = tables_number(
+        month.plants,
+        submarket,
+        number,
+        guarantee,
+        loss,
+        availability,
+        profile,
+        allotted,
+        accounts,
+    );
+    if no != 0 {
+        return no;
+    }
+    metered_number(month, profile, metered, lent)
 }

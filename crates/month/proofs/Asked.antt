@@ -9,9 +9,9 @@ use Rattle.lists.specs.Lists.{sum, atMost}
 use Rattle.lists.specs.Columns.{at}
 use Rattle.lists.proofs.Questions.{asked, parted, both, limits}
 use Rattle.hour.specs.declared.Plant.{Plant}
-use Rattle.ledger.specs.Ledger.{Ledger}
+use Rattle.ledger.specs.Ledger.{Ledger, inBounds}
 use Rattle.month.specs.declared.Month.{Month}
-use Rattle.month.specs.Questions.{sizesNumber, rowsNumber, lengthsNumber, tablesNumber, openNumber, ownNumber, meteredNumber}
+use Rattle.month.specs.Questions.{sizesNumber, rowsNumber, lengthsNumber, tablesNumber, openNumber, ownNumber, meteredNumber, balanceNumber}
 use Rattle.month.specs.Steps.{inputsNumber}
 
 -- 2 to 4
@@ -120,3 +120,16 @@ inputs m plants profile ms lent l k e z =
     let q₅ = parted _ _ (q₁₂ .1) in
     let q₁₄ = parted _ [] (q₅ .1) in
     record { own = own _ _ _ _ refl (q₁₂ .0); tables = tables _ _ _ _ (q₅ .0); meter = metered _ _ _ _ (q₁₄ .0) }
+
+-- balance: 21, 2, 11 and 19
+pub record Balance (m : Month) (l : Ledger) : Type 0 where
+  pub plants : m .plants ≤ 512
+  pub lengths : Lengths (m .plants) l
+  pub inside : inBounds l ≡ true
+
+pub balance : (m : Month) (l : Ledger) (k : ℕ) → k ≡ balanceNumber m l → k ≡ 0 → Balance m l
+unfolding balanceNumber
+balance m l k e z =
+    let q₂ = asked _ _ _ tt (asked _ _ _ tt (sym e ∙ z) .1) in
+    let q₁₁ = parted _ _ (q₂ .1) in
+    record { plants = limits _ _ _ (q₂ .0) .1; lengths = lengths _ _ (q₁₁ .0); inside = asked _ _ [] tt (q₁₁ .1) .0 }

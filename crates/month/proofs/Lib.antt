@@ -4,3 +4,4 @@ pub mod Accepted
 pub mod Demand
 pub mod Asked
 pub mod Rows
+pub mod Workable

@@ -1,15 +1,20 @@
 // Settle (document 01, 'Calls').
 use crate::Month;
+use crate::Settled;
 use crate::questions::MOST;
 use crate::questions::is_open;
 use crate::questions::sizes_number;
 use crate::questions::tables_number;
 use crate::questions::total;
 ghost use mathlib.Core.Path.{_≡_};
+ghost use mathlib.Core.Bool.{true};
 ghost use Prim.Native.Nat.{_≤_};
 ghost use lib.ListN.{length};
 ghost use Rattle.hour.specs.Table.{plantsOf, Equal};
-ghost use Rattle.month.specs.Questions.{ownNumber, meteredNumber};
+ghost use Rattle.sharing.specs.Calls.{noTable};
+ghost use Rattle.ledger.specs.Ledger.{inBounds, added};
+ghost use Rattle.ledger.specs.Posting.{Postable, hourFigures};
+ghost use Rattle.month.specs.Questions.{ownNumber, meteredNumber, boundsNumber};
 ghost use Rattle.month.specs.Steps.{inputsNumber};
 
 // 12, then 2 to 4 for the month's own P, H and TEO, and 13 of the rows and the profile figures lent.
@@ -96,4 +101,42 @@ pub fn inputs_number(
         return no;
     }
     metered_number(month, profile, metered, lent)
+}
+
+// 19 of the ledger as it is and as it would be with the hour's figures and nets added. Nothing is written.
+pub fn bounds_number(
+    allotted: &[u64],
+    accounts: &[i64],
+    figures: &[u64],
+    nets: &[i64],
+    tariff: u64,
+) -> u64
+    requires { ⌜ (inBounds (record { allotted = now allotted; accounts = now accounts }) ≡ true → Postable (record { allotted = now allotted; accounts = now accounts }) (now figures) (now nets) tariff) ⌝ }
+    ensures { λ r. ⌜ r ≡ boundsNumber (record { allotted = now (allotted .entry); accounts = now (accounts .entry) }) (added (record { allotted = now (allotted .entry); accounts = now (accounts .entry) }) (hourFigures (now (figures .entry)) (now (nets .entry)) tariff)) ⌝ }
+{
+    if !ledger::in_bounds(allotted, accounts) {
+        return 19;
+    }
+    if !ledger::in_bounds_after(allotted, accounts, figures, nets, tariff) {
+        return 19;
+    }
+    0
+}
+
+impl Month {
+    // A refused settle: zeros beside the number, and the month as it came.
+    fn unsettled(self, number: u64) -> Settled
+        ensures { λ r. ⌜ r ≡ record { number = number; month = self; secondary = 0; guarantees = 0; «cover_table» = record { rows = noTable }; «secondary_table» = record { rows = noTable } } ⌝ }
+    {
+        let cover_table = sharing::table_of([[0u64; 4]; 4]);
+        let secondary_table = sharing::table_of([[0u64; 4]; 4]);
+        Settled {
+            number,
+            month: self,
+            secondary: 0,
+            guarantees: 0,
+            cover_table,
+            secondary_table,
+        }
+    }
 }

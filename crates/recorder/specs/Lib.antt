@@ -1,2 +1,0 @@
--- Answers in the form that C takes.
-pub mod Answers

@@ -53,7 +53,22 @@ fn hand_over(column: usize, part: &[u64], want: &mut [u64], figures: &mut [u64])
     }
 }
 
-// Shares an amount over the wants of the first n rows, whose sum is total, and hands it over.
+// Gives each of the first n rows all that it wants.
+fn hand_whole(n: usize, column: usize, want: &mut [u64], figures: &mut [u64])
+    requires { ⌜ (n ≤ length (now want)) × (4 * n ≤ length (now figures)) × (column < 4) × Room (now want) (now figures) ⌝ }
+    ensures { λ _. ⌜ now (want .exit) ≡ now (want .entry) ⊖ take n (now (want .entry)) ⌝ }
+    ensures { λ _. ⌜ Raised (inColumn column (take n (now (want .entry)))) (now (figures .entry)) (now (figures .exit)) ⌝ }
+{
+    let mut i: usize = 0;
+    while i < n {
+        let at = 4 * i + column;
+        figures[at] = figures[at] + want[i];
+        want[i] = 0;
+        i = i + 1;
+    }
+}
+
+// Shares an amount over the wants of the first n rows, whose sum is total, and hands it over. An amount that is the whole sum needs no division.
 fn share_block(
     amount: u64,
     total: u64,
@@ -69,6 +84,10 @@ fn share_block(
     ensures { λ _. ⌜ Raised (inColumn column (share amount (take n (now (want .entry))))) (now (figures .entry)) (now (figures .exit)) ⌝ }
 {
     if amount == 0 {
+        return;
+    }
+    if amount == total {
+        hand_whole(n, column, want, figures);
         return;
     }
     sharing::share_into(amount, total, &want[..n], part);

@@ -39,17 +39,6 @@ min-right xs ys j = let a = at-⊓ xs ys j in omega arith
 pub fewer : (xs ys : List ℕ) → sum (xs ⊖ ys) ≤ sum xs
 fewer xs ys = sum-le (xs ⊖ ys) xs (λ i. let a = at-⊖ xs ys i in omega arith)
 
--- each block's own column
-pub own-columns : Within (0 ∷ 1 ∷ 2 ∷ 3 ∷ []) 3
-own-columns = record { at = go }
-  where
-    go : (i : ℕ) → (0 ∷ 1 ∷ 2 ∷ 3 ∷ []) ! i ≤ 3
-    go zero = omega arith
-    go (suc zero) = omega arith
-    go (suc (suc zero)) = omega arith
-    go (suc (suc (suc zero))) = omega arith
-    go (suc (suc (suc (suc i)))) = omega arith
-
 pub room-first : (want figures : List ℕ) → Within figures (2 ^ 62) → sum want ≤ 2 * 10 ^ 9 → Room want figures
 room-first want figures w h = record { at = λ i j l. let a = w .at (4 * i + j) in let b = at-le-sum want i in omega arith }
 

@@ -89,10 +89,10 @@ all-from g (suc (suc (suc zero))) h = refl
 all-from g (suc (suc (suc (suc zero)))) h = refl
 all-from g (suc (suc (suc (suc (suc t))))) h = absurd (omega arith)
 
-pub from-g : (g : ℕ) → g < 4 → Within (g ∷ g ∷ g ∷ g ∷ []) 3
-from-g g h = record { at = go }
+pub four-within : {a b c d : ℕ} → a < 4 → b < 4 → c < 4 → d < 4 → Within (a ∷ b ∷ c ∷ d ∷ []) 3
+four-within {a} {b} {c} {d} p q r s = record { at = go }
   where
-    go : (i : ℕ) → (g ∷ g ∷ g ∷ g ∷ []) ! i ≤ 3
+    go : (i : ℕ) → (a ∷ b ∷ c ∷ d ∷ []) ! i ≤ 3
     go zero = omega arith
     go (suc zero) = omega arith
     go (suc (suc zero)) = omega arith

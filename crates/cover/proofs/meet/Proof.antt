@@ -12,7 +12,8 @@ use Rattle.sharing.proofs.Sharing.{share-lawful}
 use Rattle.cover.specs.Cover.{portion, own, ownParts, table, got, rest}
 use Rattle.cover.specs.Blocks.{standingAt, Rising, Raised, inColumns, gotBy, SentWithin, Room}
 use Rattle.cover.proofs.Cover.{transfer-asked}
-use Rattle.cover.proofs.Meeting.{min-left, min-right, fewer, own-columns, room-first, sited, still-is, still-room, still-sized, sent-within, rows-below, rest-is, meets}
+use Rattle.cover.proofs.Serving.{four-within}
+use Rattle.cover.proofs.Meeting.{min-left, min-right, fewer, room-first, sited, still-is, still-room, still-sized, sent-within, rows-below, rest-is, meets}
 use borrow.Author.Needs.{needs}
 use Rattle.cover.proofs.meet.Statement.{statement}
 use Rattle.cover.proofs.meet.Tie as tie
@@ -65,7 +66,7 @@ share-blocks-requires c κs =
       (up s, s .pre .0 .1, s .pre .0 .2),
       (
         (o .before .block-sums .ensures, (let a = small s in omega arith), subst (λ l. Below l (o .before .block-sums .result)) (sym (o .own-of .ensures)) (min-right (have s) (o .before .block-sums .result))),
-        (own-columns, room s),
+        (four-within (omega arith) (omega arith) (omega arith) (omega arith), room s),
       ),
     )
 

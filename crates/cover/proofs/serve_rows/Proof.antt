@@ -13,7 +13,7 @@ use Rattle.cover.specs.Blocks.{standingAt, Rising}
 use Rattle.cover.proofs.Cover.{portion-sized}
 use Rattle.cover.proofs.Slices.{standing-length, standing-le}
 use Rattle.cover.proofs.Shares.{turn-fits, turn-less}
-use Rattle.cover.proofs.Serving.{Giving, giving, giving-more, row-fits, from-g, given}
+use Rattle.cover.proofs.Serving.{Giving, giving, giving-more, row-fits, four-within, given}
 use borrow.Author.Needs.{needs}
 use Rattle.cover.proofs.serve_rows.Statement.{statement}
 use Rattle.cover.proofs.serve_rows.Tie as tie
@@ -44,11 +44,12 @@ share-blocks-requires c κs =
     let k = l .inv .1 in
     let same = k .same in
     let long = k .rises .same in
-    let less = k .less in (
+    let less = k .less in
+    let below = c .before .before .before .before .loop-test .taken in (
       (subst (Rising (s .args .starts)) (sym same) (s .pre .0 .0), omega arith, omega arith),
       (
-        (k .still, omega arith, row-fits k (c .before .before .before .before .loop-test .taken) (rows s)),
-        (from-g (l .g) (c .before .before .before .before .loop-test .taken), k .room),
+        (k .still, omega arith, row-fits k below (rows s)),
+        (four-within (omega arith) (omega arith) (omega arith) (omega arith), k .room),
       ),
     )
 

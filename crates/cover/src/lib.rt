@@ -1,6 +1,5 @@
 // Steps 4 to 6 of an hour, and step 7 again: what four submarkets have meets what the plants want.
 ghost use mathlib.Core.Path.{_≡_};
-ghost use mathlib.Core.List.{List, map};
 ghost use Prim.Native.Nat.{_+_, _-_, _*_, _^_, _≤_, _<_, min};
 ghost use lib.ListN.{length, take, drop, getD};
 ghost use Rattle.lists.specs.Lists.{sum, Within};
@@ -116,7 +115,8 @@ pub fn block_sums(starts: [usize; 5], figures: &[u64]) -> [u64; 4]
     [a, b, c, d]
 }
 
-// Shares an amount for each submarket over its block. Block s hands over to the figures' column columns[s].
+// Shares an amount for each submarket over its block: the lists from the block's first row onward are lent on and written there. Block s
+// hands over to the figures' column columns[s].
 fn share_blocks(
     starts: [usize; 5],
     amounts: [u64; 4],

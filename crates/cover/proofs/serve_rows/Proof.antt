@@ -1,7 +1,7 @@
 -- `cover::serve_rows` meets its contract: a turn serves the rows from one giver. Assumes nothing.
 use mathlib.Core.Path.{_≡_, refl, sym, ap, _∙_, subst}
-use mathlib.Core.List.{List, [], _∷_}
-use Prim.Native.Nat.{ℕ, _+_, _-_, _*_, _≤_, _<_}
+use mathlib.Core.List.{List, []}
+use Prim.Native.Nat.{ℕ, _-_, _≤_, _<_}
 use native.Mathlib.Omega.{arith}
 use lib.ListN.{length, getD}
 use Rattle.lists.proofs.Columns.{length-rowwise}
@@ -17,10 +17,6 @@ use Rattle.cover.proofs.Serving.{Giving, giving, giving-more, row-fits,
 use borrow.Author.Needs.{needs}
 use Rattle.cover.proofs.serve_rows.Statement.{statement}
 use Rattle.cover.proofs.serve_rows.Tie as tie
-use Rattle.cover.proofs.serve_rows.Reads as reads
-use Rattle.cover.proofs.serve_rows.Lts as lts
-use Rattle.cover.proofs.share_blocks.Reads as share-blocks-reads
-use Rattle.sharing.proofs.less.Reads as less-reads
 
 abbrev Inv-loop : tie.InvT-loop
 Inv-loop starts want₀ part₀ figures₀ table still₀ g₀ want part figures still g =

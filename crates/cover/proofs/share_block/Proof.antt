@@ -9,11 +9,6 @@ use Rattle.cover.proofs.Shares.{fall-nothing, raise-nothing, zero-parts
 use borrow.Author.Needs.{needs}
 use Rattle.cover.proofs.share_block.Statement.{statement}
 use Rattle.cover.proofs.share_block.Tie as tie
-use Rattle.cover.proofs.share_block.Reads as reads
-use Rattle.cover.proofs.share_block.Lts as lts
-use Rattle.cover.proofs.hand_over.Reads as hand-over-reads
-use Rattle.sharing.proofs.share_into.Reads as share-into-reads
-use Rattle.cover.proofs.hand_whole.Reads as hand-whole-reads
 
 -- the parts, as the definition has them
 module _ (c : tie.Start) where

@@ -1,20 +1,20 @@
 -- Rows stand by submarket: sharing over a submarket's rows alone is sharing over its block. Assumes nothing.
-use mathlib.Core.Path.{_≡_, refl, sym, ap, ap₂, _∙_, subst}
+use mathlib.Core.Path.{_≡_, refl, sym, ap, ap₂, _∙_}
 use mathlib.Core.Bool.{true, false}
-use Prim.Native.Nat.{ℕ, zero, suc, _+_, _-_, _*_, _/_, _≤_, _<_}
+use Prim.Native.Nat.{ℕ, zero, suc, _+_, _-_, _≤_}
 use native.Mathlib.Omega.{arith}
-use native.Mathlib.Nat.{suc-inj, add-zero, zero-add, add-assoc}
+use native.Mathlib.Nat.{suc-inj, add-zero, zero-add}
 use mathlib.Core.List.{List, [], _∷_, _++_, append-nil, append-assoc}
 use lib.Dec.{eqb}
 use lib.Seq.{drop-drop}
-use Rattle.lists.specs.Columns.{rowwise, _⊕_, joined, inside, within, four, at, totals}
+use Rattle.lists.specs.Columns.{rowwise, _⊕_, joined, inside, within, at, totals}
 use Rattle.lists.specs.Lists.{sum}
 use Rattle.lists.proofs.Columns.{each, rowwise-append}
 use Rattle.lists.proofs.Sums.{sum-append, sum-zeros}
 use Rattle.sharing.specs.Laws.{Lawful}
 use Rattle.sharing.specs.Sharing.{Rule}
 use Rattle.cover.specs.Cover.{portion, Standing}
-use lib.ListN.{length, getD, take, drop, replicate, take-append-drop, length-take, length-drop, length-append, length-replicate, replicate-append-replicate}
+use lib.ListN.{length, take, drop, replicate, take-append-drop, length-take, length-drop, length-append, length-replicate, replicate-append-replicate}
 
 abbrev pub none : ℕ → List ℕ
 none n = replicate n 0

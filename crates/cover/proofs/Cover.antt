@@ -1,13 +1,12 @@
 -- Steps 4 to 7 for any lawful rule of sharing: what four submarkets have meets what the plants want. Assumes nothing.
 use mathlib.Core.Path.{_≡_, refl, sym, ap, _∙_, subst}
-use mathlib.Core.Logic.{_⊎_, inl, inr}
-use Prim.Native.Nat.{ℕ, zero, suc, _+_, _-_, _*_, _^_, min, max, _≤_, _<_}
+use Prim.Native.Nat.{ℕ, zero, suc, _+_, _-_, _*_, _^_, min, max, _≤_}
 use native.Mathlib.Omega.{arith}
 use mathlib.Core.List.{List, [], _∷_, map}
 use lib.ListN.{length, getD, length-map, List·getD-map}
-use Rattle.lists.specs.Columns.{rowwise, _⊕_, _⊖_, _⊓_, joined, inside, within, four, at, totals, transpose}
+use Rattle.lists.specs.Columns.{_⊕_, _⊖_, _⊓_, joined, inside, within, four, at, totals}
 use Rattle.lists.specs.Lists.{sum}
-use Rattle.lists.proofs.Columns.{_!_, length-rowwise, at-⊕, at-⊖, at-⊓, sum-⊕, sum-⊖, sum-le, sum-ext, sum-tight, sum-nil, sum-joined, at-map-sum, joined-four, transpose-at, transpose-sum, each, at-within, within-le, within-⊖, within-nil, within-joined, Sited, sited-le, totals-sum, totals-ext, totals-is, at-totals, at-joined, Only, only}
+use Rattle.lists.proofs.Columns.{_!_, length-rowwise, at-⊕, at-⊖, at-⊓, sum-⊕, sum-⊖, sum-ext, sum-tight, sum-joined, at-map-sum, joined-four, transpose-at, transpose-sum, each, at-within, within-⊖, within-nil, within-joined, Sited, sited-le, totals-sum, totals-ext, totals-is, at-totals, at-joined, Only, only}
 use Rattle.lists.proofs.Sums.{at-le-sum}
 use Rattle.lists.proofs.Questions.{every-all, at-most-all}
 use Rattle.sharing.specs.Laws.{Lawful, rowSum}
@@ -256,7 +255,7 @@ module _ {rule : Rule} (L : Lawful rule) (subs have want : List ℕ) (four-have 
   unfolding cols
   four-cols = length-serve rule left open′ ∙ four-open
 
-  four-rows : length (table rule subs have want) ≡ 4
+  pub four-rows : length (table rule subs have want) ≡ 4
   unfolding table left open′ need
   four-rows = go (totals subs want ⊖ own rule subs have want) four-open
     where
@@ -365,10 +364,7 @@ module _ {rule : Rule} (L : Lawful rule) (subs have want : List ℕ) (four-have 
         fourLeft = four-rest;
       }
 
-  -- what the code goes by: the table has four rows, no receiver is sent more than its open need, and a row adds up to its four places
-  pub four-table : length (table rule subs have want) ≡ 4
-  four-table = four-rows
-
+  -- what the code goes by: each receiver is sent its open need, a row adds up to its four places, and no giver sends more than it has left
   pub sent-is : (r : ℕ) → sum (map (λ g. g ! r) (table rule subs have want)) ≡ (totals subs want ⊖ own rule subs have want) ! r
   unfolding open′ need
   sent-is r =

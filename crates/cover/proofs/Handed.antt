@@ -1,13 +1,13 @@
 -- A loop that gives rows their parts: the want of a row falls, and its figure in one column rises. Assumes nothing.
-use mathlib.Core.Path.{_≡_, refl, sym, ap, _∙_, subst}
+use mathlib.Core.Path.{_≡_, refl, sym, ap, _∙_, subst, subst₂}
 use mathlib.Core.Bool.{Bool, true, false, cond}
 use mathlib.Core.Logic.{_⊎_, inl, inr, ⊎-elim}
 use mathlib.Core.List.{List, []}
-use Prim.Native.Nat.{ℕ, _+_, _-_, _*_, _^_, _≤_, _<_, max}
+use Prim.Native.Nat.{ℕ, _+_, _-_, _*_, _≤_, _<_}
 use native.Mathlib.Omega.{arith}
 use lib.Dec.{ltb, eqb}
 use lib.ListN.{length, getD, take, set, length-take, length-set, List·getD-eq-default}
-use lib.Seq.{take-all, getD-take, getD-set-same, getD-set-other, ext-getD}
+use lib.Seq.{take-all, length-take-le, getD-take, getD-set-same, getD-set-other, ext-getD}
 use borrow.Author.Tests.{ltb-true, ltb-false, eq-eqb, ne-eqb}
 use borrow.Author.Needs.{needs}
 use mir.Syntax.{w64}
@@ -151,4 +151,36 @@ module _ {column : ℕ} {part want₀ figures₀ : List ℕ} where
       → Raised (inColumn column part) figures₀ figures
   handed-raised {figures = figures} k h = subst (λ l. Raised (inColumn column l) figures₀ figures) (whole k h) (k .rises)
 
+-- the first n rows are given all that they want
+module _ {n column : ℕ} {want₀ figures₀ : List ℕ} (rows : n ≤ length want₀) where
+  -- the part of the row is what it wants
+  part-is : {want figures : List ℕ} {i : ℕ} → Handing column (take n want₀) want₀ figures₀ want figures i → i < n → want ! i ≡ take n want₀ ! i
+  part-is {i = i} k h =
+      let a = k .falls i in let b = past-take 0 i (take n want₀) i (omega arith) in let c = getD-take n want₀ i 0 h in omega arith
+
+  pub whole-more : {want figures : List ℕ} {i : ℕ} → Handing column (take n want₀) want₀ figures₀ want figures i → i < n
+      → 4 * n ≤ length figures₀ → column < 4
+      → Handing column (take n want₀) want₀ figures₀ (set want i 0) (set figures (4 * i + column) (figures ! (4 * i + column) + want ! i)) (i + 1)
+  whole-more {want} {figures} {i} k h four-each inside =
+      subst₂ (λ (x y : ℕ). Handing column (take n want₀) want₀ figures₀ (set want i x) (set figures (4 * i + column) (figures ! (4 * i + column) + y)) (i + 1))
+      (let a = part-is k h in omega arith) (sym (part-is k h))
+      (handing-more k (let a = length-take-le n want₀ rows in omega arith) (let a = length-take-le n want₀ rows in omega arith) (let a = length-take-le n want₀ rows in omega arith) inside)
+
+  pub whole-room : {want figures : List ℕ} {i : ℕ} → Handing column (take n want₀) want₀ figures₀ want figures i → i < n
+      → column < 4 → Room want₀ figures₀ → Fits w64 (figures ! (4 * i + column) + want ! i)
+  whole-room {want} {figures} {i} k h inside room =
+      let a = k .rises .by i column inside in
+      let b = no-rise column (take i (take n want₀)) i column (past-take 0 i (take n want₀) i (omega arith)) in
+      let c = room .at i column inside in let d = k .falls i in
+      record { fits = omega arith }
+
+  pub whole-done : {want figures : List ℕ} {i : ℕ} → Handing column (take n want₀) want₀ figures₀ want figures i → n ≤ i → want ≡ want₀ ⊖ take n want₀
+  whole-done k h = handed k (let a = length-take-le n want₀ rows in omega arith) (let a = length-take-le n want₀ rows in omega arith)
+
+  pub whole-raised : {want figures : List ℕ} {i : ℕ} → Handing column (take n want₀) want₀ figures₀ want figures i → n ≤ i
+      → Raised (inColumn column (take n want₀)) figures₀ figures
+  whole-raised k h = handed-raised k (let a = length-take-le n want₀ rows in omega arith)
+
 pub ruleset handings = (handing, handing-more, handing-part, handing-room, handed, handed-raised, needs)
+
+pub ruleset wholes = (handing, whole-more, whole-room, whole-done, whole-raised, needs)

@@ -1,4 +1,4 @@
--- Laws of cover for any lawful rule, and rows that stand in blocks.
+-- Laws of cover for any lawful rule, rows that stand in blocks, and the laws that the code goes by.
 pub mod Cover
 pub mod Blocks
 pub mod Handed

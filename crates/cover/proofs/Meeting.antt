@@ -1,13 +1,13 @@
 -- Steps 4 to 6 as the code takes them. Assumes nothing.
-use mathlib.Core.Path.{_≡_, refl, sym, ap, ap₂, _∙_, subst}
+use mathlib.Core.Path.{_≡_, refl, sym, ap, _∙_, subst}
 use mathlib.Core.Bool.{Bool, true, false, cond}
 use mathlib.Core.Logic.{_⊎_, inl, inr, ⊎-elim}
-use mathlib.Core.List.{List, [], _∷_, _++_, map}
-use Prim.Native.Nat.{ℕ, zero, suc, _+_, _-_, _*_, _/_, _%_, _^_, _≤_, _<_, min, max}
+use mathlib.Core.List.{List, [], _∷_, map}
+use Prim.Native.Nat.{ℕ, zero, suc, _+_, _-_, _*_, _/_, _%_, _^_, _≤_, _<_, min}
 use native.Mathlib.Nat.{add-sub-cancel, le-of-eq}
 use native.Mathlib.Omega.{arith}
 use lib.Dec.{eqb}
-use lib.ListN.{length, getD, take, drop, replicate, List·getD-eq-default}
+use lib.ListN.{length, getD, List·getD-eq-default}
 use lib.Seq.{ext-getD}
 use Rattle.lists.specs.Lists.{sum, Within}
 use Rattle.lists.specs.Columns.{rowwise, _⊕_, _⊖_, _⊓_, Below, inside, within, four, at, totals, byRow, column}
@@ -19,8 +19,8 @@ use Rattle.sharing.specs.Laws.{rowSum}
 use Rattle.sharing.proofs.Sharing.{share-lawful}
 use Rattle.sharing.proofs.Served.{four-is}
 use Rattle.cover.specs.Cover.{own, ownParts, table, got, rest, supplied}
-use Rattle.cover.specs.Blocks.{standingAt, Rising, Raised, inColumn, inColumns, gotBy, SentWithin, Room}
-use Rattle.cover.proofs.Cover.{own-sized, got-sized, four-table, sent-is, row-is, row-under}
+use Rattle.cover.specs.Blocks.{standingAt, Rising, Raised, inColumns, gotBy, SentWithin, Room}
+use Rattle.cover.proofs.Cover.{own-sized, got-sized, four-rows, sent-is, row-is, row-under}
 use Rattle.cover.proofs.Slices.{standing-length, standing-le, standing-ge}
 use Rattle.cover.proofs.Handed.{split}
 use Rattle.cover.proofs.Serving.{parts-under, totals-fall, room-kept}
@@ -38,17 +38,6 @@ min-right xs ys j = let a = at-⊓ xs ys j in omega arith
 
 pub fewer : (xs ys : List ℕ) → sum (xs ⊖ ys) ≤ sum xs
 fewer xs ys = sum-le (xs ⊖ ys) xs (λ i. let a = at-⊖ xs ys i in omega arith)
-
--- each block's own column
-pub own-columns : Within (0 ∷ 1 ∷ 2 ∷ 3 ∷ []) 3
-own-columns = record { at = go }
-  where
-    go : (i : ℕ) → (0 ∷ 1 ∷ 2 ∷ 3 ∷ []) ! i ≤ 3
-    go zero = omega arith
-    go (suc zero) = omega arith
-    go (suc (suc zero)) = omega arith
-    go (suc (suc (suc zero))) = omega arith
-    go (suc (suc (suc (suc i)))) = omega arith
 
 pub room-first : (want figures : List ℕ) → Within figures (2 ^ 62) → sum want ≤ 2 * 10 ^ 9 → Room want figures
 room-first want figures w h = record { at = λ i j l. let a = w .at (4 * i + j) in let b = at-le-sum want i in omega arith }
@@ -132,10 +121,6 @@ module _ (starts have want : List ℕ) (up : Rising starts (length want)) where
   unfolding own
   own-fits j = let a = at-⊓ have (totals subs want) j in omega arith
 
-  pub own-below : Below (own share subs have want) have
-  unfolding own
-  own-below j = let a = at-⊓ have (totals subs want) j in omega arith
-
   own-under : Below (ownParts share subs have want) want
   unfolding ownParts
   own-under = parts-under share-lawful subs (own share subs have want) want own-fits
@@ -178,7 +163,7 @@ module _ (starts have want : List ℕ) (up : Rising starts (length want)) where
         r = row-is share-lawful subs have want four-have sited enough
 
         sums : map sum T ≡ four (λ s. rowSum T (s - 1))
-        sums = ap (map sum) (four-is [] T (four-table share-lawful subs have want four-have sited enough)) ∙ sym (λ i. r 0 i ∷ r 1 i ∷ r 2 i ∷ r 3 i ∷ [])
+        sums = ap (map sum) (four-is [] T (four-rows share-lawful subs have want four-have sited enough)) ∙ sym (λ i. r 0 i ∷ r 1 i ∷ r 2 i ∷ r 3 i ∷ [])
 
   rise-own : (i j : ℕ) → j < 4 → inColumns (0 ∷ 1 ∷ 2 ∷ 3 ∷ []) subs (ownParts share subs have want) i j ≡ within (j + 1) subs (ownParts share subs have want) ! i
   rise-own i j h = go (sited i) ∙ sym (at-within (j + 1) subs (ownParts share subs have want) i)

@@ -1,14 +1,14 @@
 -- Step 6: givers in order, each sharing what it sent over the needs that are still open. Assumes nothing.
-use mathlib.Core.Path.{_≡_, refl, sym, ap, ap₂, _∙_, subst}
+use mathlib.Core.Path.{_≡_, refl, sym, ap, _∙_, subst}
 use mathlib.Core.Bool.{Bool, true, false, cond}
 use mathlib.Core.Logic.{⊎-elim}
-use mathlib.Core.List.{List, [], _∷_, _++_, map}
-use Prim.Native.Nat.{ℕ, zero, suc, _+_, _-_, _*_, _^_, _≤_, _<_, max}
+use mathlib.Core.List.{List, [], _∷_, map}
+use Prim.Native.Nat.{ℕ, zero, suc, _+_, _-_, _≤_, _<_}
 use native.Mathlib.Nat.{add-zero}
 use native.Mathlib.Numerals.{add-one}
 use native.Mathlib.Omega.{arith}
 use lib.Dec.{eqb}
-use lib.ListN.{length, getD, take, drop, replicate}
+use lib.ListN.{length, getD, take, drop}
 use lib.Seq.{ext-getD, take-all, drop-cons, drop-drop, getD-drop}
 use borrow.Author.Tests.{eq-eqb, ne-eqb}
 use Rattle.lists.specs.Lists.{sum, Within}
@@ -18,9 +18,9 @@ use Rattle.sharing.specs.Sharing.{Rule, share, serve}
 use Rattle.sharing.specs.Laws.{Lawful}
 use Rattle.sharing.proofs.Sharing.{share-lawful}
 use Rattle.cover.specs.Cover.{portion}
-use Rattle.cover.specs.Blocks.{standingAt, Rising, Raised, inColumn, inColumns, gotBy, SentWithin, Room}
+use Rattle.cover.specs.Blocks.{Raised, inColumn, inColumns, gotBy, SentWithin, Room}
 use Rattle.cover.proofs.Cover.{Fits, portion-under, portion-adds}
-use Rattle.cover.proofs.Handed.{split, same-or-not, past-take, next-here, next-there, no-rise}
+use Rattle.cover.proofs.Handed.{same-or-not, past-take, next-here, next-there}
 
 -- ---- one giver
 module _ {rule : Rule} (L : Lawful rule) (subs amounts want : List ℕ) (fits : (j : ℕ) → amounts ! j ≤ totals subs want ! j) where
@@ -89,10 +89,10 @@ all-from g (suc (suc (suc zero))) h = refl
 all-from g (suc (suc (suc (suc zero)))) h = refl
 all-from g (suc (suc (suc (suc (suc t))))) h = absurd (omega arith)
 
-pub from-g : (g : ℕ) → g < 4 → Within (g ∷ g ∷ g ∷ g ∷ []) 3
-from-g g h = record { at = go }
+pub four-within : {a b c d : ℕ} → a < 4 → b < 4 → c < 4 → d < 4 → Within (a ∷ b ∷ c ∷ d ∷ []) 3
+four-within {a} {b} {c} {d} p q r s = record { at = go }
   where
-    go : (i : ℕ) → (g ∷ g ∷ g ∷ g ∷ []) ! i ≤ 3
+    go : (i : ℕ) → (a ∷ b ∷ c ∷ d ∷ []) ! i ≤ 3
     go zero = omega arith
     go (suc zero) = omega arith
     go (suc (suc zero)) = omega arith

@@ -1,10 +1,10 @@
 -- Sharing over a block, and over the four blocks one after the other. Assumes nothing.
 use mathlib.Core.Path.{_≡_, refl, sym, ap, ap₂, _∙_, subst}
-use mathlib.Core.Bool.{Bool, true, false, cond}
+use mathlib.Core.Bool.{cond}
 use mathlib.Core.Logic.{⊎-elim}
 use mathlib.Core.List.{List, [], _++_, append-nil}
-use Prim.Native.Nat.{ℕ, _+_, _-_, _*_, _^_, _≤_, _<_, max}
-use native.Mathlib.Nat.{le-of-eq, add-sub-cancel}
+use Prim.Native.Nat.{ℕ, _+_, _-_, _*_, _≤_, _<_}
+use native.Mathlib.Nat.{le-of-eq, le-refl, add-sub-cancel}
 use native.Mathlib.Omega.{arith}
 use lib.Dec.{eqb}
 use lib.ListN.{length, getD, take, drop, length-take, length-drop, drop-of-length-le, length-append, List·getD-append}
@@ -14,9 +14,9 @@ use mir.Val.{Fits}
 use Rattle.lists.specs.Lists.{sum}
 use Rattle.lists.specs.Columns.{_⊖_, Below}
 use Rattle.lists.proofs.Rows.{at-replicate}
-use Rattle.lists.proofs.Columns.{_!_, at-⊖, length-rowwise}
+use Rattle.lists.proofs.Columns.{_!_, at-⊖, sum-tight, length-rowwise}
 use Rattle.sharing.specs.Sharing.{share}
-use Rattle.sharing.proofs.Sharing.{share-lawful}
+use Rattle.sharing.proofs.Sharing.{share-lawful, adds-le}
 use Rattle.cover.specs.Blocks.{standingAt, Rising, Raised, inColumn, inColumns, Room}
 use Rattle.cover.proofs.Slices.{block, end-below, row-in}
 use Rattle.cover.proofs.Handed.{split, past-take, no-rise}
@@ -44,6 +44,12 @@ module _ (n : ℕ) (want : List ℕ) (short : n ≤ length want) where
   -- no part above its want
   pub parts-below : (t : ℕ) → t ≤ sum (take n want) → Below (share t (take n want)) want
   parts-below t h i = let a = share-lawful .bounded t (take n want) h i in let b = take-le n want i in omega arith
+
+-- the whole sum shared: each part is its weight
+pub share-whole : (ws : List ℕ) → share (sum ws) ws ≡ ws
+share-whole ws =
+    ext-getD 0 (share (sum ws) ws) ws (share-lawful .sized (sum ws) ws)
+    (λ i _. sum-tight (share (sum ws) ws) ws (share-lawful .bounded (sum ws) ws (le-refl (sum ws))) (le-of-eq (sym (adds-le share-lawful (sum ws) ws (le-refl (sum ws))))) i)
 
 -- what is lent on after sharing
 pub front-parts : (n : ℕ) (xs ys : List ℕ) {p : List ℕ} → p ≡ xs ++ ys → length xs ≡ n → take n p ≡ xs

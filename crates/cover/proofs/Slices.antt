@@ -3,10 +3,10 @@ use mathlib.Core.Path.{_≡_, refl, sym, ap, ap₂, _∙_}
 use mathlib.Core.List.{List, [], _∷_, _++_}
 use Prim.Native.Nat.{ℕ, zero, suc, _+_, _-_, _≤_, _<_}
 use native.Mathlib.Omega.{arith}
-use lib.ListN.{length, getD, take, drop, replicate, length-append, length-take, length-drop, length-replicate, getD-replicate, List·getD-append}
+use lib.ListN.{length, getD, take, drop, replicate, length-append, length-take, length-drop, length-replicate, getD-replicate}
 use lib.Seq.{take-all, take-length, take-append-seam, drop-append-seam, drop-append-add, getD-take, getD-drop}
 use Rattle.lists.specs.Lists.{sum}
-use Rattle.lists.specs.Columns.{at, totals}
+use Rattle.lists.specs.Columns.{totals}
 use Rattle.lists.proofs.Columns.{_!_}
 use Rattle.sharing.specs.Laws.{Lawful}
 use Rattle.sharing.specs.Sharing.{Rule}

@@ -1,17 +1,17 @@
 -- Where the blocks start: the loop that finds it, and rows that stand by submarket. Assumes nothing.
-use mathlib.Core.Path.{_≡_, refl, sym, ap, ap₂, _∙_}
+use mathlib.Core.Path.{_≡_, refl, sym, ap, _∙_}
 use mathlib.Core.Bool.{Bool, true, false, cond}
 use mathlib.Core.List.{List, [], _∷_, _++_, append-nil}
 use Prim.Native.Nat.{ℕ, zero, suc, _+_, _-_, _≤_, _<_}
 use native.Mathlib.Omega.{arith}
 use lib.Dec.{leb}
-use lib.ListN.{length, getD, drop, replicate, length-append, length-replicate, drop-of-length-le}
+use lib.ListN.{length, getD, drop, replicate, length-append, length-replicate}
 use borrow.Author.Needs.{needs}
-use borrow.Author.Tests.{leb-true, leb-false, le-leb, lt-leb}
+use borrow.Author.Tests.{leb-true, le-leb, lt-leb}
 use Rattle.lists.proofs.Columns.{_!_}
 use Rattle.lists.proofs.Loops.{rest-more, rest-none}
 use Rattle.cover.specs.Cover.{Standing}
-use Rattle.cover.specs.Blocks.{leading, blockStarts, blockRows, standingAt, Rising}
+use Rattle.cover.specs.Blocks.{leading, blockStarts, standingAt, Rising}
 use Rattle.cover.proofs.Blocks.{Blocks, standing-blocks}
 
 leading-nil : (s : ℕ) → leading s [] ≡ 0

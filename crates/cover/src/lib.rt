@@ -1,6 +1,5 @@
 // Steps 4 to 6 of an hour, and step 7 again: what four submarkets have meets what the plants want.
 ghost use mathlib.Core.Path.{_≡_};
-ghost use mathlib.Core.List.{List, map};
 ghost use Prim.Native.Nat.{_+_, _-_, _*_, _^_, _≤_, _<_, min};
 ghost use lib.ListN.{length, take, drop, getD};
 ghost use Rattle.lists.specs.Lists.{sum, Within};
@@ -53,7 +52,22 @@ fn hand_over(column: usize, part: &[u64], want: &mut [u64], figures: &mut [u64])
     }
 }
 
-// Shares an amount over the wants of the first n rows, whose sum is total, and hands it over.
+// Gives each of the first n rows all that it wants.
+fn hand_whole(n: usize, column: usize, want: &mut [u64], figures: &mut [u64])
+    requires { ⌜ (n ≤ length (now want)) × (4 * n ≤ length (now figures)) × (column < 4) × Room (now want) (now figures) ⌝ }
+    ensures { λ _. ⌜ now (want .exit) ≡ now (want .entry) ⊖ take n (now (want .entry)) ⌝ }
+    ensures { λ _. ⌜ Raised (inColumn column (take n (now (want .entry)))) (now (figures .entry)) (now (figures .exit)) ⌝ }
+{
+    let mut i: usize = 0;
+    while i < n {
+        let at = 4 * i + column;
+        figures[at] = figures[at] + want[i];
+        want[i] = 0;
+        i = i + 1;
+    }
+}
+
+// Shares an amount over the wants of the first n rows, whose sum is total, and hands it over. An amount that is the whole sum needs no division.
 fn share_block(
     amount: u64,
     total: u64,
@@ -69,6 +83,10 @@ fn share_block(
     ensures { λ _. ⌜ Raised (inColumn column (share amount (take n (now (want .entry))))) (now (figures .entry)) (now (figures .exit)) ⌝ }
 {
     if amount == 0 {
+        return;
+    }
+    if amount == total {
+        hand_whole(n, column, want, figures);
         return;
     }
     sharing::share_into(amount, total, &want[..n], part);
@@ -97,7 +115,8 @@ pub fn block_sums(starts: [usize; 5], figures: &[u64]) -> [u64; 4]
     [a, b, c, d]
 }
 
-// Shares an amount for each submarket over its block. Block s hands over to the figures' column columns[s].
+// Shares an amount for each submarket over its block: the lists from the block's first row onward are lent on and written there. Block s
+// hands over to the figures' column columns[s].
 fn share_blocks(
     starts: [usize; 5],
     amounts: [u64; 4],

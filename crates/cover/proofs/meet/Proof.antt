@@ -1,5 +1,5 @@
 -- `cover::meet` meets its contract: each call is what the definitions say. Assumes nothing.
-use mathlib.Core.Path.{_≡_, refl, sym, ap, ap₂, _∙_, subst, subst₂}
+use mathlib.Core.Path.{_≡_, sym, ap, ap₂, _∙_, subst, subst₂}
 use mathlib.Core.List.{List, [], _∷_}
 use Prim.Native.Nat.{ℕ, _-_, _*_, _^_, _≤_}
 use native.Mathlib.Omega.{arith}
@@ -9,23 +9,14 @@ use Rattle.lists.specs.Columns.{_⊖_, _⊓_, Below, four, totals}
 use Rattle.sharing.specs.Sharing.{share, serve, transfer}
 use Rattle.sharing.specs.Laws.{rowSum}
 use Rattle.sharing.proofs.Sharing.{share-lawful}
-use Rattle.cover.specs.Cover.{portion, own, ownParts, table, got, rest}
+use Rattle.cover.specs.Cover.{portion, own, ownParts, table, got}
 use Rattle.cover.specs.Blocks.{standingAt, Rising, Raised, inColumns, gotBy, SentWithin, Room}
 use Rattle.cover.proofs.Cover.{transfer-asked}
-use Rattle.cover.proofs.Meeting.{min-left, min-right, fewer, own-columns, room-first, sited, still-is, still-room, still-sized, sent-within, rows-below, rest-is, meets}
+use Rattle.cover.proofs.Serving.{four-within}
+use Rattle.cover.proofs.Meeting.{min-left, min-right, fewer, room-first, sited, still-is, still-room, still-sized, sent-within, rows-below, rest-is, meets}
 use borrow.Author.Needs.{needs}
 use Rattle.cover.proofs.meet.Statement.{statement}
 use Rattle.cover.proofs.meet.Tie as tie
-use Rattle.cover.proofs.meet.Reads as reads
-use Rattle.cover.proofs.meet.Lts as lts
-use Rattle.cover.proofs.block_sums.Reads as block-sums-reads
-use Rattle.cover.proofs.own_of.Reads as own-of-reads
-use Rattle.cover.proofs.rest_of.Reads as rest-of-reads
-use Rattle.cover.proofs.serve_rows.Reads as serve-rows-reads
-use Rattle.cover.proofs.share_blocks.Reads as share-blocks-reads
-use Rattle.sharing.proofs.less.Reads as less-reads
-use Rattle.sharing.proofs.table_of.Reads as table-of-reads
-use Rattle.sharing.proofs.transfer_step.Reads as transfer-step-reads
 
 -- what the definitions speak of
 module _ (c : tie.Start) where
@@ -65,7 +56,7 @@ share-blocks-requires c κs =
       (up s, s .pre .0 .1, s .pre .0 .2),
       (
         (o .before .block-sums .ensures, (let a = small s in omega arith), subst (λ l. Below l (o .before .block-sums .result)) (sym (o .own-of .ensures)) (min-right (have s) (o .before .block-sums .result))),
-        (own-columns, room s),
+        (four-within (omega arith) (omega arith) (omega arith) (omega arith), room s),
       ),
     )
 

@@ -1,7 +1,7 @@
 -- `cover::serve_rows` meets its contract: a turn serves the rows from one giver. Assumes nothing.
 use mathlib.Core.Path.{_≡_, refl, sym, ap, _∙_, subst}
-use mathlib.Core.List.{List, [], _∷_}
-use Prim.Native.Nat.{ℕ, _+_, _-_, _*_, _≤_, _<_}
+use mathlib.Core.List.{List, []}
+use Prim.Native.Nat.{ℕ, _-_, _≤_, _<_}
 use native.Mathlib.Omega.{arith}
 use lib.ListN.{length, getD}
 use Rattle.lists.proofs.Columns.{length-rowwise}
@@ -13,14 +13,10 @@ use Rattle.cover.specs.Blocks.{standingAt, Rising}
 use Rattle.cover.proofs.Cover.{portion-sized}
 use Rattle.cover.proofs.Slices.{standing-length, standing-le}
 use Rattle.cover.proofs.Shares.{turn-fits, turn-less}
-use Rattle.cover.proofs.Serving.{Giving, giving, giving-more, row-fits, from-g, given}
+use Rattle.cover.proofs.Serving.{Giving, giving, giving-more, row-fits, four-within, given}
 use borrow.Author.Needs.{needs}
 use Rattle.cover.proofs.serve_rows.Statement.{statement}
 use Rattle.cover.proofs.serve_rows.Tie as tie
-use Rattle.cover.proofs.serve_rows.Reads as reads
-use Rattle.cover.proofs.serve_rows.Lts as lts
-use Rattle.cover.proofs.share_blocks.Reads as share-blocks-reads
-use Rattle.sharing.proofs.less.Reads as less-reads
 
 abbrev Inv-loop : tie.InvT-loop
 Inv-loop starts want₀ part₀ figures₀ table still₀ g₀ want part figures still g =
@@ -44,11 +40,12 @@ share-blocks-requires c κs =
     let k = l .inv .1 in
     let same = k .same in
     let long = k .rises .same in
-    let less = k .less in (
+    let less = k .less in
+    let below = c .before .before .before .before .loop-test .taken in (
       (subst (Rising (s .args .starts)) (sym same) (s .pre .0 .0), omega arith, omega arith),
       (
-        (k .still, omega arith, row-fits k (c .before .before .before .before .loop-test .taken) (rows s)),
-        (from-g (l .g) (c .before .before .before .before .loop-test .taken), k .room),
+        (k .still, omega arith, row-fits k below (rows s)),
+        (four-within (omega arith) (omega arith) (omega arith) (omega arith), k .room),
       ),
     )
 

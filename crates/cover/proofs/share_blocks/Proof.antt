@@ -3,7 +3,7 @@ use mathlib.Core.Path.{_≡_, refl, sym, ap, _∙_, subst}
 use mathlib.Core.List.{List}
 use Prim.Native.Nat.{ℕ, _+_, _-_, _*_, _≤_, _<_}
 use native.Mathlib.Omega.{arith}
-use lib.ListN.{length, take, drop, getD, length-append, length-take, length-drop}
+use lib.ListN.{length, take, drop, getD}
 use Rattle.lists.specs.Lists.{sum}
 use Rattle.lists.specs.Columns.{_⊖_, totals}
 use Rattle.lists.proofs.Sums.{part-le-sum}
@@ -17,9 +17,6 @@ use Rattle.cover.proofs.Shares.{Blocked, blocked, blocked-more, blocked
 use borrow.Author.Needs.{needs}
 use Rattle.cover.proofs.share_blocks.Statement.{statement}
 use Rattle.cover.proofs.share_blocks.Tie as tie
-use Rattle.cover.proofs.share_blocks.Reads as reads
-use Rattle.cover.proofs.share_blocks.Lts as lts
-use Rattle.cover.proofs.share_block.Reads as share-block-reads
 
 abbrev Inv-loop : tie.InvT-loop
 Inv-loop want₀ part₀ figures₀ starts amounts sums columns s₀ want part figures s =

@@ -2,9 +2,9 @@
 use mathlib.Core.Path.{_≡_, refl, sym, ap, _∙_}
 use mathlib.Core.Logic.{_⊎_, inl, inr}
 use mathlib.Core.Bool.{Bool, true, false, cond}
-use Prim.Native.Nat.{ℕ, zero, _+_, _-_, _*_, _/_, min, _≤_, _<_}
+use Prim.Native.Nat.{ℕ, zero, _+_, _-_, min, _≤_, _<_}
 use native.Mathlib.Omega.{arith}
-use native.Mathlib.Nat.{eq-zero-or-pos, mul-le-mul-left}
+use native.Mathlib.Nat.{eq-zero-or-pos}
 use native.Mathlib.Decide.{decLt}
 use mathlib.Core.List.{List, []}
 use lib.Dec.{leb, eqb}
@@ -15,10 +15,9 @@ use Rattle.lists.specs.Lists.{sum}
 use Rattle.lists.proofs.Columns.{_!_, length-rowwise, at-⊕, at-⊖, at-⊓, each, sum-⊕, sum-le, sum-ext, sum-nil, joined-four, at-within, at-outside, within-ext, within-⊕, in-and-out, Sited, sited-le, quarters, totals-sum, at-totals}
 use Rattle.lists.proofs.Sums.{at-le-sum}
 use Rattle.sharing.specs.Laws.{Lawful}
-use Rattle.sharing.specs.Sharing.{share}
-use Rattle.sharing.proofs.Sharing.{adds-le, share-lawful}
+use Rattle.sharing.proofs.Sharing.{adds-le}
 use Rattle.cover.specs.Cover.{own, got, rest}
-use Rattle.hour.specs.Hour.{Hour, submarkets, modulated, guaranteed, guarantees, secondary, covered, deficit, surplus, leftOver, rights, ownCover, coverTable, coverGot, ownSecondary, secondaryTable, secondaryGot, figure}
+use Rattle.hour.specs.Hour.{Hour, submarkets, guaranteed, guarantees, secondary, covered, deficit, surplus, leftOver, rights, ownCover, coverTable, coverGot, ownSecondary, secondaryTable, secondaryGot, figure}
 use Rattle.hour.specs.declared.Plant.{Plant}
 use Rattle.cover.proofs.Cover.{Met, met, own-sized, got-sized}
 
@@ -286,19 +285,3 @@ module _ (h : Hour) (ok : Sound h) where
 
   pub leftOver-le : sum (leftOver h) ≤ sum G
   leftOver-le = let p = leftOver-sum in let q = rights-sum in let s = covered-sum in omega arith
-
--- steps 1 and 2: no more than the guarantee
-pub modulated-le : (h : Hour) (p : Plant) → 0 < sum (h .profile) → modulated h p ≤ p .guarantee
-unfolding modulated
-modulated-le h p some =
-    let a = at-le-sum (share (p .guarantee) (h .profile)) (h .period - 1) in
-    let e = share-lawful .adds (p .guarantee) (h .profile) (inr some) in
-    omega arith
-
-pub guaranteed-le : (h : Hour) (p : Plant) → 0 < sum (h .profile) → p .loss ≤ 1000000 → p .availability ≤ 1000000 → guaranteed h p ≤ p .guarantee
-unfolding guaranteed
-guaranteed-le h p some loss avail =
-    let m = modulated-le h p some in
-    let a = mul-le-mul-left (modulated h p) loss in
-    let c = mul-le-mul-left (modulated h p * p .loss / 1000000) avail in
-    omega arith

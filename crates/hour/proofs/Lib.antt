@@ -7,5 +7,6 @@ pub mod Written
 pub mod Fours
 pub mod Allotment
 pub mod Limits
+pub mod Digits
 pub mod Whole
 pub mod Submarkets

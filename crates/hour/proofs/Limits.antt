@@ -34,14 +34,14 @@ module _ {ss ns gs ls vs profile : List ℕ} {k : ℕ} {metered lent : List ℕ}
   abbrev h : Hour
   h = hourOf (plantsOf ss ns gs ls vs) profile metered k
 
-  pub profile-small : sum profile < 2 ^ 62
+  pub profile-small : sum profile < 2 ^ 43
   profile-small =
       let a = sum-bound profile (2 * 10 ^ 9) (w .hourly) in
       let b : length profile * (2 * 10 ^ 9) ≤ 744 * (2 * 10 ^ 9) = omega (arith, w .periods) in
       omega arith
 
   pub modulation-ordered : Ordered (modulationOf profile k)
-  modulation-ordered = ordered profile k profile-small
+  modulation-ordered = ordered profile k (w .whole) profile-small
 
   pub sound : Sound h
   unfolding hourOf

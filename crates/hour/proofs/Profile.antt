@@ -2,7 +2,7 @@
 use mathlib.Core.Path.{_≡_, sym, ap, _∙_}
 use mathlib.Core.List.{List, [], _∷_, _++_, map}
 use Prim.Native.Nat.{ℕ, suc, _+_, _-_, _*_, _/_, _^_, _≤_, _<_}
-use native.Mathlib.Nat.{mul-le-mul-left, div-le-of-le-mul, le-trans}
+use native.Mathlib.Nat.{le-trans}
 use native.Mathlib.Omega.{arith}
 use lib.ListN.{length, take, drop, getD, take-append-drop, length-map, List·getD-map}
 use lib.Seq.{take-suc, take-take, ext-getD}
@@ -14,7 +14,9 @@ use Rattle.hour.specs.declared.Plant.{Plant}
 use Rattle.hour.specs.declared.modulation.Modulation.{Modulation}
 use Rattle.hour.specs.Hour.{Hour, hourOf, modulated, guaranteed, guarantees}
 use Rattle.hour.specs.Table.{plantsOf}
-use Rattle.hour.specs.Steps.{Ordered, modulationOf, partOf, guaranteeOf}
+use Rattle.hour.specs.Steps.{Ordered, Consecutive, modulationOf, partOf, partBy, guaranteeOf}
+use Rattle.hour.specs.declared.ratio.Ratio.{Ratio}
+use Rattle.hour.proofs.Digits.{digits-le}
 use Rattle.hour.proofs.Table.{plant, length-plants, plant-at}
 
 module _ (l : List ℕ) (k : ℕ) where
@@ -30,27 +32,29 @@ module _ (l : List ℕ) (k : ℕ) where
       let a = ap sum e in let b = sum-append (take (k - 1) l) (getD l (k - 1) 0 ∷ []) in
       omega arith
 
-pub ordered : (profile : List ℕ) (k : ℕ) → sum profile < 2 ^ 62 → Ordered (modulationOf profile k)
+pub ordered : (profile : List ℕ) (k : ℕ) → 0 < sum profile → sum profile < 2 ^ 43 → Ordered (modulationOf profile k)
 unfolding modulationOf
-ordered profile k small =
+ordered profile k some small =
     record {
       lower = let a = take-le-sum (take k profile) (k - 1) in let b = ap sum (take-take (k - 1) k profile (omega arith)) in omega arith;
       upper = take-le-sum profile k;
+      some = some;
       small = small;
     }
 
 -- the part is no more than Q
 pub part-le : (m : Modulation) (q : ℕ) → m .upto ≤ m .whole → partOf m q ≤ q
-part-le m q h =
-    let a : q * m .upto / m .whole ≤ q =
-    div-le-of-le-mul (m .whole) (let b = mul-le-mul-left q h in omega arith) in
-    omega arith
+part-le m q h = let a = digits-le q (m .upto) (m .whole) h in omega arith
 
--- the totals up to the period are no less than those before it
-pub running-mono : (m : Modulation) (q : ℕ) → m .before ≤ m .upto → q * m .before / m .whole ≤ q * m .upto / m .whole
-running-mono m q h =
-    let e : m .before + (m .upto - m .before) ≡ m .upto = omega arith in
-    rw e at (up-to-mono q (m .whole) (m .before) (m .upto - m .before))
+module _ (before upto : Ratio) (q : ℕ) (c : Consecutive before upto) where
+  pub part-by-le : partBy before upto q ≤ q
+  part-by-le = let a = digits-le q (upto .part) (upto .whole) (c .second .atMostOne) in omega arith
+
+  -- what falls to the periods up to this one is no less than what falls to those before it
+  pub running-mono : q * before .part / before .whole ≤ q * upto .part / upto .whole
+  running-mono =
+      let e : before .part + (upto .part - before .part) ≡ upto .part = (let a = c .lower in omega arith) in
+      rw (c .same) (rw e at (up-to-mono q (upto .whole) (before .part) (upto .part - before .part)))
 
 -- no guarantee is above 10^12
 pub columns-le : (m : Modulation) (gs ls vs : List ℕ) → m .upto ≤ m .whole → Within gs (10 ^ 12) → Within ls 1000000 → Within vs 1000000

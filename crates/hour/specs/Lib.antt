@@ -1,5 +1,6 @@
 -- Document 01, 'One hour', as definitions.
 pub mod Hour
 pub mod Table
+pub mod Ratio
 pub mod Steps
 pub mod Work

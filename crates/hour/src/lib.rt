@@ -7,6 +7,7 @@ ghost use Rattle.hour.specs.Work.{Workable, HourWorked};
 use sharing::Table;
 
 mod modulation;
+mod ratio;
 mod rows;
 
 // A plant record: monthly guarantee Q in kWh, loss and availability factors in millionths.

@@ -3,7 +3,9 @@ ghost use mathlib.Core.Path.{_≡_};
 ghost use Prim.Native.Nat.{_+_, _-_, _*_, _/_, _^_, _≤_, _<_};
 ghost use lib.ListN.{length};
 ghost use Rattle.lists.specs.Lists.{sum, table, Within};
-ghost use Rattle.hour.specs.Steps.{Ordered, modulationOf, partOf, guaranteeOf};
+ghost use Rattle.hour.specs.Steps.{Ordered, Consecutive, modulationOf, partBy, guaranteeOf};
+use crate::ratio;
+use crate::ratio::Ratio;
 
 // What step 1 takes from the profile for period k: the running totals C(k − 1) and Ck, and the whole W.
 pub struct Modulation {
@@ -30,23 +32,20 @@ pub fn modulation_at(profile: &[u64], period: u64) -> Modulation
     }
 }
 
-// Step 1: the part of Q in this period.
-pub fn modulated(m: Modulation, q: u64) -> u64
-    requires { ⌜ Ordered m ⌝ }
-    ensures { λ r. ⌜ r ≡ partOf m q ⌝ }
+// Step 1: the part of Q in this period, by the ratios C(k − 1) / W and Ck / W.
+pub fn modulated(before: Ratio, upto: Ratio, q: u64) -> u64
+    requires { ⌜ Consecutive before upto × (q ≤ 10 ^ 12) ⌝ }
+    ensures { λ r. ⌜ r ≡ partBy before upto q ⌝ }
 {
-    let upto = wide::mul_div(q, m.upto, m.whole);
-    let before = wide::mul_div(q, m.before, m.whole);
-    upto - before
+    ratio::times(q, upto) - ratio::times(q, before)
 }
 
 // Step 2: that, times loss, rounded down; the result times availability, rounded down.
-pub fn guaranteed(m: Modulation, q: u64, loss: u64, availability: u64) -> u64
-    requires { ⌜ Ordered m ⌝ }
-    requires { ⌜ (q ≤ 10 ^ 12) × (loss ≤ 1000000) × (availability ≤ 1000000) ⌝ }
-    ensures { λ r. ⌜ r ≡ partOf m q * loss / 1000000 * availability / 1000000 ⌝ }
+pub fn guaranteed(before: Ratio, upto: Ratio, q: u64, loss: u64, availability: u64) -> u64
+    requires { ⌜ Consecutive before upto × (q ≤ 10 ^ 12) × (loss ≤ 1000000) × (availability ≤ 1000000) ⌝ }
+    ensures { λ r. ⌜ r ≡ partBy before upto q * loss / 1000000 * availability / 1000000 ⌝ }
 {
-    let part = modulated(m, q);
+    let part = modulated(before, upto, q);
     let delivered = part * loss / 1000000;
     delivered * availability / 1000000
 }
@@ -64,9 +63,11 @@ pub fn guarantees_into(
     requires { ⌜ Within (now guarantee) (10 ^ 12) × Within (now loss) 1000000 × Within (now availability) 1000000 ⌝ }
     ensures { λ _. ⌜ now (out .exit) ≡ table (length (now (guarantee .entry))) (guaranteeOf m (now (guarantee .entry)) (now (loss .entry)) (now (availability .entry))) ⌝ }
 {
+    let before = ratio::ratio_of(m.before, m.whole);
+    let upto = ratio::ratio_of(m.upto, m.whole);
     let mut i: usize = 0;
     while i < guarantee.len() {
-        out[i] = guaranteed(m, guarantee[i], loss[i], availability[i]);
+        out[i] = guaranteed(before, upto, guarantee[i], loss[i], availability[i]);
         i += 1;
     }
 }
@@ -80,7 +81,7 @@ pub fn guarantees_of(
     availability: &[u64],
     a: &mut [u64],
 ) -> u64
-    requires { ⌜ (1 ≤ period) × (period ≤ length (now profile)) × (sum (now profile) < 2 ^ 62) ⌝ }
+    requires { ⌜ (1 ≤ period) × (period ≤ length (now profile)) × (0 < sum (now profile)) × (sum (now profile) < 2 ^ 43) ⌝ }
     requires { ⌜ (length (now loss) ≡ length (now guarantee)) × (length (now availability) ≡ length (now guarantee)) × (length (now a) ≡ length (now guarantee)) ⌝ }
     requires { ⌜ Within (now guarantee) (10 ^ 12) × Within (now loss) 1000000 × Within (now availability) 1000000 ⌝ }
     requires { ⌜ length (now guarantee) ≤ 512 ⌝ }

@@ -124,7 +124,7 @@ figures-are c =
 guarantees-of-requires : tie.Need-guarantees-of-requires
 guarantees-of-requires c κs =
     let w = c .before .before .before .before .before .before .before .before .before .before .before .before .before .before .pre .0 in let l = c .before .before .before .before .before .before .before .before .before .before .before .before .before .before .pre .1 .0 in (
-      (w .begun, w .due, profile-small w),
+      (w .begun, w .due, w .whole, profile-small w),
       (
         (w .equal .losses ∙ sym (w .equal .guarantees), w .equal .availabilities ∙ sym (w .equal .guarantees), l ∙ sym (w .equal .guarantees)),
         ((w .guarantees, w .losses, w .availabilities), (let e = w .equal .guarantees in let m = w .rows in omega arith)),

@@ -13,7 +13,7 @@ use Rattle.hour.proofs.modulation.guarantees_of.Tie as tie
 guarantees-into-requires : tie.Need-guarantees-into-requires
 guarantees-into-requires c κs =
     let start = c .before .before .before .before .before .before .before in
-    (rw (c .before .modulation-at .ensures) (ordered (start .args .profile .now) (start .args .period) (start .pre .0 .2)), (start .pre .1 .0, start .pre .1 .1 .0))
+    (rw (c .before .modulation-at .ensures) (ordered (start .args .profile .now) (start .args .period) (start .pre .0 .2) (start .pre .0 .3)), (start .pre .1 .0, start .pre .1 .1 .0))
 
 is-a : (c : tie.After-guarantees-into)
     → let start = c .before .before .before .before .before .before .before .before in
@@ -30,7 +30,7 @@ small : (c : tie.After-guarantees-into) → sum (c .guarantees-into .last .1 .1 
 small c =
     let start = c .before .before .before .before .before .before .before .before in
     let gs = start .args .guarantee .now in
-    let o = ordered (start .args .profile .now) (start .args .period) (start .pre .0 .2) in
+    let o = ordered (start .args .profile .now) (start .args .period) (start .pre .0 .2) (start .pre .0 .3) in
     let w = start .pre .1 .1 .0 in
     rw (is-a c)
     (let a = columns-le (modulationOf (start .args .profile .now) (start .args .period)) gs (start .args .loss .now) (start .args .availability .now) (o .upper) (w .0) (w .1) (w .2) (length gs) in

@@ -5,3 +5,4 @@ pub mod Demand
 pub mod Asked
 pub mod Rows
 pub mod Workable
+pub mod Many

@@ -11,6 +11,7 @@ mod ratio;
 mod rows;
 
 // A plant record: monthly guarantee Q in kWh, loss and availability factors in millionths.
+#[repr(C)]
 pub struct Plant {
     pub submarket: u64,
     pub number: u64,

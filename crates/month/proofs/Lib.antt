@@ -6,3 +6,4 @@ pub mod Asked
 pub mod Rows
 pub mod Ends
 pub mod Workable
+pub mod Many

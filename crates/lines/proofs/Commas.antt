@@ -1,0 +1,173 @@
+-- Laws of commas and fields. Assumes nothing.
+use mathlib.Core.Path.{_≡_, refl, sym, ap, _∙_}
+use mathlib.Core.Bool.{Bool, true, false, cond}
+use mathlib.Core.List.{List, [], _∷_}
+use Prim.Native.Nat.{ℕ, zero, suc, _+_, _-_, _≤_, _<_, zero-le}
+use native.Mathlib.Nat.{add-zero}
+use native.Mathlib.Numerals.{add-one}
+use native.Mathlib.Omega.{arith}
+use borrow.Author.Tests.{eq-eqb, ne-eqb, ltb-true, ltb-false}
+use lib.Dec.{eqb, ltb}
+use lib.ListN.{length, take, drop, getD, length-drop, drop-of-length-le}
+use lib.Seq.{drop-cons, getD-drop, drop-drop, drop-nil, take-all, length-take-le}
+use Rattle.lists.proofs.Questions.{refuses, accepts}
+use Rattle.lines.specs.Fields.{toComma, nextComma, firstField, fields, toFirst, Starts, fieldNumber, fieldBytes}
+
+-- ---- one byte more
+
+module _ (l : List ℕ) (i : ℕ) where
+  comma-end : length l ≤ i → toComma (drop i l) ≡ 0
+  unfolding toComma
+  comma-end h = rw (drop-of-length-le l {i = i} h)
+
+  comma-here : i < length l → getD l i 0 ≡ 44 → toComma (drop i l) ≡ 0
+  unfolding toComma
+  comma-here h e = rw (drop-cons l i 0, eq-eqb (getD l i 0) 44 e)
+
+  comma-more : i < length l → (getD l i 0 ≡ 44 → ⊥) → toComma (drop i l) ≡ suc (toComma (drop (i + 1) l))
+  unfolding toComma
+  comma-more h n = rw (add-one, drop-cons l i 0, ne-eqb (getD l i 0) 44 n)
+
+  pub next-end : length l ≤ i → nextComma l i ≡ i
+  unfolding nextComma
+  next-end h = omega (arith, comma-end h)
+
+  pub next-here : i < length l → getD l i 0 ≡ 44 → nextComma l i ≡ i
+  unfolding nextComma
+  next-here h e = omega (arith, comma-here h e)
+
+  pub next-more : i < length l → (getD l i 0 ≡ 44 → ⊥) → nextComma l i ≡ nextComma l (i + 1)
+  unfolding nextComma
+  next-more h n = omega (arith, comma-more h n)
+
+-- ---- the next comma lies inside the line
+
+comma-le : (l : List ℕ) → toComma l ≤ length l
+unfolding toComma
+comma-le [] = omega arith
+comma-le (b ∷ bs) = by (eqb b 44) (comma-le bs)
+  where
+    by : (t : Bool) → toComma bs ≤ length bs → cond t 0 (suc (toComma bs)) ≤ suc (length bs)
+    by true ih = omega arith
+    by false ih = omega arith
+
+module _ (l : List ℕ) (i : ℕ) where
+  pub next-low : i ≤ nextComma l i
+  unfolding nextComma
+  next-low = omega arith
+
+  pub next-high : i ≤ length l → nextComma l i ≤ length l
+  unfolding nextComma
+  next-high h = omega (arith, comma-le (drop i l), length-drop i l)
+
+-- ---- the first field, and those behind it
+
+fields-by : (b : ℕ) (bs : List ℕ) (t : Bool) → eqb b 44 ≡ t
+    → (length bs ≤ toComma bs → fields bs ≡ bs ∷ []) → (toComma bs < length bs → fields bs ≡ take (toComma bs) bs ∷ fields (drop (suc (toComma bs)) bs))
+    → (length (b ∷ bs) ≤ toComma (b ∷ bs) → fields (b ∷ bs) ≡ (b ∷ bs) ∷ [])
+    × (toComma (b ∷ bs) < length (b ∷ bs) → fields (b ∷ bs) ≡ take (toComma (b ∷ bs)) (b ∷ bs) ∷ fields (drop (suc (toComma (b ∷ bs))) (b ∷ bs)))
+unfolding fields toComma toFirst
+fields-by b bs true e last more = rw e ((λ h. absurd (omega arith)), (λ h. refl))
+fields-by b bs false e last more = rw e ((λ h. ap (toFirst b) (last (omega arith))), (λ h. ap (toFirst b) (more (omega arith))))
+
+fields-both : (l : List ℕ) → (length l ≤ toComma l → fields l ≡ l ∷ [])
+    × (toComma l < length l → fields l ≡ take (toComma l) l ∷ fields (drop (suc (toComma l)) l))
+unfolding fields toComma
+fields-both [] = ((λ h. refl), (λ h. absurd (omega arith)))
+fields-both (b ∷ bs) = let ih = fields-both bs in fields-by b bs (eqb b 44) refl (ih .0) (ih .1)
+
+-- from a position on: the field there, and those behind the next comma
+module _ (l : List ℕ) (i : ℕ) (h : i ≤ length l) where
+  pub field-long : i + length (firstField (drop i l)) ≡ nextComma l i
+  unfolding firstField nextComma
+  field-long = ap (λ (n : ℕ). i + n) (length-take-le (toComma (drop i l)) (drop i l) (comma-le (drop i l)))
+
+  pub fields-more : nextComma l i < length l → fields (drop i l) ≡ firstField (drop i l) ∷ fields (drop (nextComma l i + 1) l)
+  unfolding firstField nextComma
+  fields-more k =
+      let behind : i + suc (toComma (drop i l)) ≡ i + toComma (drop i l) + 1 = omega arith in
+      fields-both (drop i l) .1 (omega (arith, length-drop i l))
+      ∙ ap (λ (r : List ℕ). firstField (drop i l) ∷ fields r) (drop-drop (suc (toComma (drop i l))) i l ∙ ap (λ (n : ℕ). drop n l) behind)
+
+  pub fields-last : length l ≤ nextComma l i → fields (drop i l) ≡ firstField (drop i l) ∷ []
+  unfolding firstField nextComma
+  fields-last k =
+      let all : length (drop i l) ≤ toComma (drop i l) = omega (arith, length-drop i l) in
+      fields-both (drop i l) .0 all ∙ ap (λ (f : List ℕ). f ∷ []) (sym (take-all (toComma (drop i l)) (drop i l) all))
+
+  -- the part that is handed back
+  pub field-part : (e : ℕ) → e ≡ nextComma l i → take (e - i) (drop i l) ≡ firstField (drop i l)
+  unfolding firstField nextComma
+  field-part e p =
+      let long : e - i ≡ toComma (drop i l) = omega arith in
+      ap (λ (n : ℕ). take n (drop i l)) long
+
+-- ---- a loop that passes over fields
+
+-- with at in the line, the fields from there on but `left` are those of the line but `index`
+pub record Skipping (l : List ℕ) (index at left : ℕ) : Type 0 where
+  pub inside : at ≤ length l
+  pub rest : drop left (fields (drop at l)) ≡ drop index (fields l)
+
+module _ {l : List ℕ} {index : ℕ} where
+  pub skipping : Skipping l index 0 index
+  skipping = record { inside = zero-le; rest = refl }
+
+  pub skipping-more : {at left e : ℕ} → Skipping l index at left → 0 < left → e ≡ nextComma l at → e < length l → Skipping l index (e + 1) (left - 1)
+  skipping-more {at} {left} {e} s h p k =
+      let one-more : left ≡ suc (left - 1) = omega arith in
+      record { inside = omega arith; rest = rw p (rw (one-more, fields-more l at (s .inside) (rw p at k)) at (s .rest)) }
+
+  pub skipped-all : {at left e : ℕ} → Skipping l index at left → 0 < left → e ≡ nextComma l at → length l ≤ e → Starts l index (e + 1)
+  skipped-all {at} {left} {e} s h p k =
+      let one-more : left ≡ suc (left - 1) = omega arith in
+      record {
+        there = λ q. absurd (omega arith);
+        absent = λ q. sym (s .rest) ∙ rw (one-more, fields-last l at (s .inside) (rw p at k), drop-nil (left - 1));
+      }
+
+  pub skipped : {at left : ℕ} → Skipping l index at left → left ≤ 0 → Starts l index at
+  skipped {at} {left} s h =
+      let none : left ≡ 0 = omega arith in
+      record { there = λ q. sym (s .rest) ∙ rw none; absent = λ q. absurd (omega (arith, s .inside)) }
+
+-- ---- a field by its index
+
+-- a line has a first field
+fields-first : (l : List ℕ) → fields l ≡ firstField l ∷ drop 1 (fields l)
+unfolding fields firstField toComma toFirst
+fields-first [] = refl
+fields-first (b ∷ bs) = by (eqb b 44) refl (fields-first bs)
+  where
+    by : (t : Bool) → eqb b 44 ≡ t → fields bs ≡ firstField bs ∷ drop 1 (fields bs) → fields (b ∷ bs) ≡ firstField (b ∷ bs) ∷ drop 1 (fields (b ∷ bs))
+    by true e ih = rw e
+    by false e ih = rw (e, ih)
+
+pub fields-some : (l : List ℕ) → 0 < length (fields l)
+fields-some l = omega (arith, ap length (fields-first l))
+
+module _ {l : List ℕ} {index r : ℕ} (s : Starts l index r) where
+  pub field-absent : length l < r → length (fields l) ≤ index
+  field-absent h = omega (arith, length-drop index (fields l), ap length (s .absent h))
+
+  module _ (h : r ≤ length l) where
+    whole : drop index (fields l) ≡ firstField (drop r l) ∷ drop 1 (fields (drop r l))
+    whole = s .there h ∙ fields-first (drop r l)
+
+    pub field-present : index < length (fields l)
+    field-present = omega (arith, length-drop index (fields l), ap length whole)
+
+    pub field-there : getD (fields l) index [] ≡ firstField (drop r l)
+    field-there =
+        ap (λ (n : ℕ). getD (fields l) n []) (sym (add-zero index)) ∙ sym (getD-drop index (fields l) 0 []) ∙ ap (λ (fs : List (List ℕ)). getD fs 0 []) whole
+
+-- ---- what the field call hands back
+
+module _ (l : List ℕ) (index : ℕ) where
+  pub bytes-none : (n : ℕ) → n ≡ fieldNumber l index → 0 < n → [] ≡ fieldBytes l index
+  unfolding fieldBytes
+  bytes-none n e h = refuses n (fieldNumber l index) _ [] _ e (λ z. omega arith) refl
+
+  pub bytes-there : {f : List ℕ} → 0 ≡ fieldNumber l index → f ≡ getD (fields l) index [] → f ≡ fieldBytes l index
+  unfolding fieldBytes
+  bytes-there e p = accepts 0 (fieldNumber l index) _ _ _ e refl p

@@ -1,0 +1,4 @@
+-- Lines of text: figures written and read, fields, the reader of a line.
+pub mod Figures
+pub mod Fields
+pub mod Reading

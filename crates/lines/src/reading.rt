@@ -1,0 +1,226 @@
+// The reader of a line: its start, its fields, and their figures.
+ghost use mathlib.Core.Path.{_≡_};
+ghost use mathlib.Core.Bool.{false};
+ghost use mathlib.Core.List.{_++_};
+ghost use Prim.Native.Nat.{_≤_};
+ghost use lib.ListN.{length, take, drop};
+ghost use Rattle.lists.specs.Lists.{every};
+ghost use Rattle.lines.specs.Figures.{isDigit, leadingZero, isFigure};
+ghost use Rattle.lines.specs.Fields.{fields};
+ghost use Rattle.lines.specs.Reading.{startsWith, lineStart, startLength, countFits, ReadAs, ReadTo, refusal, ReadEnd, readCall};
+use crate::fields::LONGEST;
+use crate::fields::field_at;
+
+pub struct Line {
+    pub number: u64,
+    pub start: u64,
+    pub fields: u64,
+}
+
+// Does the line begin with these bytes?
+fn starts_with(line: &[u8], bytes: &[u8]) -> bool
+    ensures { λ r. ⌜ r ≡ startsWith (now (bytes .entry)) (now (line .entry)) ⌝ }
+{
+    if line.len() < bytes.len() {
+        return false;
+    }
+    let mut i: usize = 0;
+    while i < bytes.len() {
+        if line[i] != bytes[i] {
+            return false;
+        }
+        i += 1;
+    }
+    true
+}
+
+// 1 to 4 for the four starts, 0 for none.
+fn line_start(line: &[u8]) -> u64
+    ensures { λ r. ⌜ r ≡ lineStart (now (line .entry)) ⌝ }
+{
+    if starts_with(line, b"MRE,1,") {
+        return 1;
+    }
+    if starts_with(line, b"P,") {
+        return 2;
+    }
+    if starts_with(line, b"H,") {
+        return 3;
+    }
+    if starts_with(line, b"G,") {
+        return 4;
+    }
+    0
+}
+
+fn start_length(start: u64) -> usize
+    ensures { λ r. ⌜ r ≡ startLength start ⌝ }
+{
+    if start == 1 {
+        return 6;
+    }
+    2
+}
+
+fn count_fits(start: u64, count: usize) -> bool
+    ensures { λ r. ⌜ r ≡ countFits start count ⌝ }
+{
+    if start == 1 {
+        return count == 3;
+    }
+    if start == 2 {
+        return count == 5;
+    }
+    if start == 3 {
+        return count == 2;
+    }
+    2 <= count && count <= 513
+}
+
+// A field as read: whether it is a figure, and if so which.
+struct FieldRead {
+    good: bool,
+    value: u64,
+}
+
+fn no_figure() -> FieldRead
+    ensures { λ r. ⌜ (r .good ≡ false) × (r .value ≡ 0) ⌝ }
+{
+    FieldRead {
+        good: false,
+        value: 0,
+    }
+}
+
+fn wide(b: u8) -> u64
+    ensures { λ r. ⌜ r ≡ b ⌝ }
+{
+    b as u64
+}
+
+// The digits of a field that is short enough for its figure to fit.
+fn read_digits(field: &[u8]) -> FieldRead
+    requires { ⌜ length (now field) ≤ 19 ⌝ }
+    ensures { λ r. ⌜ ReadAs (every isDigit (now (field .entry))) (now (field .entry)) (r .good) (r .value) ⌝ }
+{
+    let mut value: u64 = 0;
+    let mut i: usize = 0;
+    while i < field.len() {
+        let b = wide(field[i]);
+        if b < 48 {
+            return no_figure();
+        }
+        if 57 < b {
+            return no_figure();
+        }
+        value = 10 * value + (b - 48);
+        i += 1;
+    }
+    FieldRead { good: true, value }
+}
+
+fn has_leading_zero(field: &[u8]) -> bool
+    ensures { λ r. ⌜ r ≡ leadingZero (now (field .entry)) ⌝ }
+{
+    1 < field.len() && field[0] == 48
+}
+
+fn read_figure(field: &[u8]) -> FieldRead
+    ensures { λ r. ⌜ ReadAs (isFigure (now (field .entry))) (now (field .entry)) (r .good) (r .value) ⌝ }
+{
+    if field.len() < 1 {
+        return no_figure();
+    }
+    if 19 < field.len() {
+        return no_figure();
+    }
+    if has_leading_zero(field) {
+        return no_figure();
+    }
+    read_digits(field)
+}
+
+// Fields as read: how many there are, and whether each is a figure.
+struct FieldsRead {
+    count: usize,
+    good: bool,
+}
+
+// Reads the fields from a position on, their figures to the front of the list; one more than its length where it has no room.
+fn read_fields(line: &[u8], from: usize, figures: &mut [u64]) -> FieldsRead
+    requires { ⌜ from ≤ length (now line) ⌝ }
+    ensures { λ r. ⌜ ReadTo (fields (drop from (now (line .entry)))) (now (figures .entry)) (now (figures .exit)) (r .count) (r .good) ⌝ }
+{
+    let mut at = from;
+    let mut good = true;
+    let mut count: usize = 0;
+    while count < figures.len() {
+        let field = field_at(line, at);
+        let read = read_figure(field);
+        figures[count] = read.value;
+        good = good && read.good;
+        count += 1;
+        at += field.len();
+        if line.len() <= at {
+            return FieldsRead { count, good };
+        }
+        at += 1;
+    }
+    FieldsRead {
+        count: count + 1,
+        good,
+    }
+}
+
+// Copies the first figures of a list to the front of another.
+fn copy_front(from: &[u64], count: usize, to: &mut [u64])
+    requires { ⌜ (count ≤ length (now from)) × (count ≤ length (now to)) ⌝ }
+    ensures { λ _. ⌜ now (to .exit) ≡ take count (now (from .entry)) ++ drop count (now (to .entry)) ⌝ }
+{
+    let mut i: usize = 0;
+    while i < count {
+        to[i] = from[i];
+        i += 1;
+    }
+}
+
+fn refused(number: u64) -> Line
+    ensures { λ r. ⌜ r ≡ refusal number ⌝ }
+{
+    Line {
+        number,
+        start: 0,
+        fields: 0,
+    }
+}
+
+// Reads a line, its end byte 10 removed. The figures are read to a list of its own, so that a refusal leaves the lent one as it was.
+pub fn read_line(line: &[u8], figures: &mut [u64]) -> Line
+    ensures { λ r. ⌜ _≡_ {A = ReadEnd} (record { answer = r; figures = now (figures .exit) }) (readCall (now (line .entry)) (now (figures .entry))) ⌝ }
+{
+    if LONGEST < line.len() {
+        return refused(26);
+    }
+    let start = line_start(line);
+    if start == 0 {
+        return refused(27);
+    }
+    let mut own: [u64; 513] = [0; 513];
+    let read = read_fields(line, start_length(start), &mut own);
+    let count = read.count;
+    if !count_fits(start, count) {
+        return refused(28);
+    }
+    if !read.good {
+        return refused(29);
+    }
+    if figures.len() < count {
+        return refused(30);
+    }
+    copy_front(&own, count, figures);
+    Line {
+        number: 0,
+        start,
+        fields: count as u64,
+    }
+}

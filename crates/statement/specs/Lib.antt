@@ -1,0 +1,2 @@
+-- Document 01, 'The file and its statement': the statement's bytes.
+pub mod Statement

@@ -1,0 +1,25 @@
+-- Bytes written to a place of a lent text. Assumes nothing.
+use mathlib.Core.Path.{_≡_}
+use mathlib.Core.List.{List, [], _∷_, _++_}
+use Prim.Native.Nat.{ℕ, _+_, _≤_}
+use lib.ListN.{length, drop}
+use Rattle.lines.specs.Figures.{figure, written}
+
+-- figures, each with a comma behind it
+unfoldable pub fieldsText : List ℕ → List ℕ
+fieldsText [] = []
+fieldsText (x ∷ xs) = figure x ++ (44 ∷ fieldsText xs)
+
+-- the text has room for the bytes from `at` on
+abbrev pub Room : List ℕ → ℕ → List ℕ → Type 0
+Room bytes at text = at + length bytes ≤ length text
+
+-- the bytes stand in the text from `at` on, the rest of it is as it was, and the answer is the place behind them
+pub record Wrote (bytes : List ℕ) (at : ℕ) (before : List ℕ) (end : ℕ) (after : List ℕ) : Type 0 where
+  pub place : end ≡ at + length bytes
+  pub text : after ≡ written before at bytes
+
+-- 'The statement fills the front of the lent bytes and answers its length; the rest stays'
+pub record Fills (statement : List ℕ) (before : List ℕ) (answer : ℕ) (after : List ℕ) : Type 0 where
+  pub size : answer ≡ length statement
+  pub text : after ≡ statement ++ drop (length statement) before

@@ -1,3 +1,3 @@
 -- Laws of the statement's lines.
 pub mod Text
-pub mod Writing
+pub mod Parts

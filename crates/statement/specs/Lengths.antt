@@ -14,10 +14,14 @@ unfoldable pub fieldsLength : List ℕ → ℕ
 fieldsLength [] = 0
 fieldsLength (x ∷ xs) = figureLength x + 1 + fieldsLength xs
 
+-- how A and T lines begin
+unfoldable pub leadingLength : ℕ → ℕ → List ℕ → ℕ
+leadingLength x y figures = 2 + fieldsLength (x ∷ y ∷ figures)
+
 -- an A line: its letter, submarket, number, ledger figures, net, money, each with one byte behind it
 unfoldable pub plantLineLength : Plant → List ℕ → ℤ → ℤ → ℕ
 plantLineLength p figures net money =
-    2 + fieldsLength (p .submarket ∷ p .number ∷ figures) + (signedFigureLength net + 1) + (signedFigureLength money + 1)
+    leadingLength (p .submarket) (p .number) figures + (signedFigureLength net + 1) + (signedFigureLength money + 1)
 
 -- the A lines, as `plantLines` goes down the rows
 unfoldable pub plantLinesLength : List Plant → List ℕ → List ℤ → ℕ
@@ -27,7 +31,7 @@ plantLinesLength (p ∷ ps) allotted accounts =
 
 -- the T line: its letter, periods settled, P, column sums, their sum
 unfoldable pub totalLineLength : ℕ → ℕ → List ℕ → ℕ
-totalLineLength settled plants columns = 2 + fieldsLength (settled ∷ plants ∷ columns) + (figureLength (sum columns) + 1)
+totalLineLength settled plants columns = leadingLength settled plants columns + (figureLength (sum columns) + 1)
 
 -- the whole
 unfoldable pub statementLength : ℕ → List Plant → Ledger → ℕ

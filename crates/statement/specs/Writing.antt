@@ -4,15 +4,28 @@ use mathlib.Core.List.{List, [], _∷_, _++_}
 use Prim.Native.Nat.{ℕ, _+_, _≤_}
 use lib.ListN.{length, drop}
 use Rattle.lines.specs.Figures.{figure, written}
+use Rattle.hour.specs.declared.Plant.{Plant}
+
+-- a field, and the byte behind it: a comma, or the line's end
+unfoldable pub field : List ℕ → ℕ → List ℕ
+field bytes behind = bytes ++ (behind ∷ [])
 
 -- figures, each with a comma behind it
 unfoldable pub fieldsText : List ℕ → List ℕ
 fieldsText [] = []
-fieldsText (x ∷ xs) = figure x ++ (44 ∷ fieldsText xs)
+fieldsText (x ∷ xs) = field (figure x) 44 ++ fieldsText xs
+
+-- how A and T lines begin: a letter, two figures, and a list of figures
+unfoldable pub leading : ℕ → ℕ → ℕ → List ℕ → List ℕ
+leading letter x y figures = letter ∷ 44 ∷ fieldsText (x ∷ y ∷ figures)
+
+-- a plant as its A line shows it: submarket and number
+abbrev pub shown : ℕ → ℕ → Plant
+shown s n = record { submarket = s; number = n; guarantee = 0; loss = 0; availability = 0 }
 
 -- the text has room for the bytes from `at` on
-abbrev pub Room : List ℕ → ℕ → List ℕ → Type 0
-Room bytes at text = at + length bytes ≤ length text
+pub record Room (bytes : List ℕ) (at : ℕ) (text : List ℕ) : Type 0 where
+  pub fits : at + length bytes ≤ length text
 
 -- the bytes stand in the text from `at` on, the rest of it is as it was, and the answer is the place behind them
 pub record Wrote (bytes : List ℕ) (at : ℕ) (before : List ℕ) (end : ℕ) (after : List ℕ) : Type 0 where

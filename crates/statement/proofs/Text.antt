@@ -1,19 +1,23 @@
 -- Laws of the statement's text: its lines field by field, and how long they are. Assumes nothing.
 use mathlib.Core.Path.{_≡_, refl, sym, ap, ap₂, _∙_}
 use mathlib.Core.List.{List, [], _∷_, _++_, map, append-assoc}
-use Prim.Native.Nat.{ℕ, zero, suc, _+_, _*_, _≤_, _<_}
+use Prim.Native.Nat.{ℕ, zero, suc, _+_, _-_, _*_, _≤_, _<_}
+use native.Mathlib.Nat.{add-zero}
+use native.Mathlib.Numerals.{add-one}
 use native.Mathlib.Omega.{arith}
 use lib.IntN.{ℤ, pos}
-use lib.ListN.{length, take, drop, getD, length-append}
+use lib.ListN.{length, take, drop, getD, length-append, drop-of-length-le}
+use lib.Seq.{drop-drop, getD-drop}
 use Rattle.lists.specs.Lists.{sum}
 use Rattle.lists.specs.Columns.{four}
 use Rattle.lists.proofs.Loops.{rest-more, rest-none}
 use Rattle.lines.specs.Figures.{figure, signedFigure, figureLength, signedFigureLength}
 use Rattle.hour.specs.declared.Plant.{Plant}
 use Rattle.hour.specs.Table.{plantsOf}
+use Rattle.hour.proofs.Table.{length-plants, row-at}
 use Rattle.ledger.specs.Ledger.{Ledger, allottedIn}
 use Rattle.statement.specs.Statement.{line, plantLine, plantLines, totalLine, statementText}
-use Rattle.statement.specs.Writing.{field, fieldsText, leading}
+use Rattle.statement.specs.Writing.{field, fieldsText, leading, shown, rowLine}
 use Rattle.statement.specs.Lengths.{fieldsLength, leadingLength, plantLineLength, plantLinesLength, totalLineLength, statementLength}
 
 -- ---- lines, field by field
@@ -59,6 +63,44 @@ pub total-line-is : (settled plants : ℕ) (columns : List ℕ)
     → totalLine settled plants columns ≡ leading 84 settled plants columns ++ field (figure (sum columns)) 10
 unfolding totalLine line field
 total-line-is settled plants columns = leading-next (figure (sum columns)) [] 84 settled plants columns
+
+-- ---- the A lines, row by row
+
+module _ (ss ns al : List ℕ) (ac : List ℤ) where
+  -- the lines of the rows from i on
+  pub linesFrom : ℕ → List ℕ
+  linesFrom i = plantLines (drop i (plantsOf ss ns [] [] [])) (drop (4 * i) al) (drop (2 * i) ac)
+
+  pub lines-all : plantLines (plantsOf ss ns [] [] []) al ac ≡ linesFrom 0
+  unfolding linesFrom
+  lines-all = refl
+
+  pub lines-more : (i : ℕ) → i < length ss → linesFrom i ≡ rowLine ss ns al ac i ++ linesFrom (i + 1)
+  unfolding linesFrom rowLine plantLines
+  lines-more i h =
+      let ps : List Plant = plantsOf ss ns [] [] [] in
+      let four : 4 * i + 4 ≡ 4 * (i + 1) = omega arith in
+      let two : 2 * i + 2 ≡ 2 * (i + 1) = omega arith in
+      ap (λ (q : List Plant). plantLines q (drop (4 * i) al) (drop (2 * i) ac)) (row-at i ss ns [] [] [] h)
+      ∙ ap₂ _++_
+      (ap₂ (plantLine (shown (getD ss i 0) (getD ns i 0)) (take 4 (drop (4 * i) al)))
+      (getD-drop (2 * i) ac 0 (pos 0) ∙ ap (λ (n : ℕ). getD ac n (pos 0)) (add-zero (2 * i))) (getD-drop (2 * i) ac 1 (pos 0)))
+      (ap (λ (n : ℕ). plantLines (drop n ps) (drop 4 (drop (4 * i) al)) (drop 2 (drop (2 * i) ac))) (sym (add-one i))
+      ∙ ap₂ (plantLines (drop (i + 1) ps)) (drop-drop 4 (4 * i) al ∙ ap (λ (n : ℕ). drop n al) four) (drop-drop 2 (2 * i) ac ∙ ap (λ (n : ℕ). drop n ac) two))
+
+  pub lines-none : (i : ℕ) → length ss ≤ i → linesFrom i ≡ []
+  unfolding linesFrom plantLines
+  lines-none i h =
+      let past : length (plantsOf ss ns [] [] []) ≤ i = omega (arith, length-plants ss ns [] [] []) in
+      ap (λ (ps : List Plant). plantLines ps (drop (4 * i) al) (drop (2 * i) ac)) (drop-of-length-le (plantsOf ss ns [] [] []) past)
+
+-- the line of row i, as the code lends and reads its figures
+pub row-line : (ss ns al : List ℕ) (ac : List ℤ) (i : ℕ) {net money : ℤ} → net ≡ getD ac (2 * i) (pos 0) → money ≡ getD ac (2 * i + 1) (pos 0)
+    → rowLine ss ns al ac i ≡ plantLine (shown (getD ss i 0) (getD ns i 0)) (take (4 * i + 4 - 4 * i) (drop (4 * i) al)) net money
+unfolding rowLine
+row-line ss ns al ac i e f =
+    let four : 4 * i + 4 - 4 * i ≡ 4 = omega arith in
+    rw (e, f, four)
 
 -- ---- lengths
 

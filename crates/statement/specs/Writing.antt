@@ -1,10 +1,12 @@
 -- Bytes written to a place of a lent text. Assumes nothing.
 use mathlib.Core.Path.{_≡_}
 use mathlib.Core.List.{List, [], _∷_, _++_}
-use Prim.Native.Nat.{ℕ, _+_, _≤_}
-use lib.ListN.{length, drop}
+use Prim.Native.Nat.{ℕ, _+_, _*_, _≤_}
+use lib.IntN.{ℤ, pos}
+use lib.ListN.{length, take, drop, getD}
 use Rattle.lines.specs.Figures.{figure, written}
 use Rattle.hour.specs.declared.Plant.{Plant}
+use Rattle.statement.specs.Statement.{plantLine}
 
 -- a field, and the byte behind it: a comma, or the line's end
 unfoldable pub field : List ℕ → ℕ → List ℕ
@@ -22,6 +24,17 @@ leading letter x y figures = letter ∷ 44 ∷ fieldsText (x ∷ y ∷ figures)
 -- a plant as its A line shows it: submarket and number
 abbrev pub shown : ℕ → ℕ → Plant
 shown s n = record { submarket = s; number = n; guarantee = 0; loss = 0; availability = 0 }
+
+-- the A line of row i, of columns and lists that run row by row
+unfoldable pub rowLine : List ℕ → List ℕ → List ℕ → List ℤ → ℕ → List ℕ
+rowLine submarket number allotted accounts i =
+    plantLine (shown (getD submarket i 0) (getD number i 0)) (take 4 (drop (4 * i) allotted)) (getD accounts (2 * i) (pos 0)) (getD accounts (2 * i + 1) (pos 0))
+
+-- a row's submarket, number, four figures, net and money for each row
+pub record Even (submarket number allotted : List ℕ) (accounts : List ℤ) : Type 0 where
+  pub numbers : length number ≡ length submarket
+  pub figures : length allotted ≡ 4 * length submarket
+  pub nets : length accounts ≡ 2 * length submarket
 
 -- the text has room for the bytes from `at` on
 pub record Room (bytes : List ℕ) (at : ℕ) (text : List ℕ) : Type 0 where

@@ -5,7 +5,7 @@ ghost use Prim.Native.Nat.{_*_, _<_, _^_};
 ghost use lib.ListN.{length};
 ghost use Rattle.lists.specs.Lists.{sum};
 ghost use Rattle.lines.specs.Figures.{figure, signedFigure};
-ghost use Rattle.statement.specs.Writing.{field, fieldsText, leading, shown, Room, Wrote};
+ghost use Rattle.statement.specs.Writing.{field, fieldsText, leading, shown, rowLine, Even, Room, Wrote};
 ghost use Rattle.hour.specs.Table.{plantsOf};
 ghost use Rattle.statement.specs.Statement.{plantLine, plantLines, totalLine};
 use lines::figures::write_figure;
@@ -82,6 +82,57 @@ fn write_plant_line(
     let end = write_leading(b'A', submarket, number, figures, text, at);
     let end = write_signed_field(net, b',', text, end);
     write_signed_field(money, b'\n', text, end)
+}
+
+// The A line of row i.
+fn write_row(
+    submarket: &[u64],
+    number: &[u64],
+    allotted: &[u64],
+    accounts: &[i64],
+    i: usize,
+    text: &mut [u8],
+    at: usize,
+) -> usize
+    requires { ⌜ (i < length (now submarket)) × Even (now submarket) (now number) (now allotted) (now accounts) ⌝ }
+    requires { ⌜ Room (rowLine (now submarket) (now number) (now allotted) (now accounts) i) at (now text) ⌝ }
+    ensures { λ r. ⌜ Wrote (rowLine (now (submarket .entry)) (now (number .entry)) (now (allotted .entry)) (now (accounts .entry)) i) at (now (text .entry)) r (now (text .exit)) ⌝ }
+{
+    let start = 4 * i;
+    let stop = start + 4;
+    let net = accounts[2 * i];
+    let money = accounts[2 * i + 1];
+    write_plant_line(
+        submarket[i],
+        number[i],
+        &allotted[start..stop],
+        net,
+        money,
+        text,
+        at,
+    )
+}
+
+// The A lines, row by row.
+fn write_plant_lines(
+    submarket: &[u64],
+    number: &[u64],
+    allotted: &[u64],
+    accounts: &[i64],
+    text: &mut [u8],
+    at: usize,
+) -> usize
+    requires { ⌜ Even (now submarket) (now number) (now allotted) (now accounts) ⌝ }
+    requires { ⌜ Room (plantLines (plantsOf (now submarket) (now number) [] [] []) (now allotted) (now accounts)) at (now text) ⌝ }
+    ensures { λ r. ⌜ Wrote (plantLines (plantsOf (now (submarket .entry)) (now (number .entry)) [] [] []) (now (allotted .entry)) (now (accounts .entry))) at (now (text .entry)) r (now (text .exit)) ⌝ }
+{
+    let mut end = at;
+    let mut i: usize = 0;
+    while i < submarket.len() {
+        end = write_row(submarket, number, allotted, accounts, i, text, end);
+        i += 1;
+    }
+    end
 }
 
 // The sum of the columns.

@@ -13,15 +13,22 @@ pub record Ledger : Type 0 where
   pub allotted : List ℕ
   pub accounts : List ℤ
 
+-- figures a plant in each list
+abbrev pub allottedWidth : ℕ
+allottedWidth = 4
+
+abbrev pub accountsWidth : ℕ
+accountsWidth = 2
+
 -- the columns: the figures in submarket s, the nets, the sums of money
 abbrev pub allottedIn : ℕ → Ledger → List ℕ
-allottedIn s l = column 4 (s - 1) (l .allotted)
+allottedIn s l = column allottedWidth (s - 1) (l .allotted)
 
 abbrev pub netColumn : Ledger → List ℤ
-netColumn l = column 2 0 (l .accounts)
+netColumn l = column accountsWidth 0 (l .accounts)
 
 abbrev pub moneyColumn : Ledger → List ℤ
-moneyColumn l = column 2 1 (l .accounts)
+moneyColumn l = column accountsWidth 1 (l .accounts)
 
 -- every figure inside its bound: allotted kWh, net kWh, money in thousandths of a centavo
 unfoldable pub inBounds : Ledger → Bool
@@ -31,7 +38,7 @@ inBounds l =
 
 -- all zeros, for p plants
 unfoldable pub zeros : ℕ → Ledger
-zeros p = record { allotted = replicate (4 * p) 0; accounts = replicate (2 * p) (pos 0) }
+zeros p = record { allotted = replicate (allottedWidth * p) 0; accounts = replicate (accountsWidth * p) (pos 0) }
 
 -- figures added, one for one
 unfoldable pub added : Ledger → Ledger → Ledger

@@ -6,3 +6,4 @@ pub mod Parts
 pub mod Bounds
 pub mod Columns
 pub mod Rows
+pub mod Strides

@@ -12,7 +12,7 @@ use Rattle.lists.proofs.Columns.{_!_, length-rowwise, getD-transpose}
 
 -- ---- a column
 -- m of the figures to be passed over, dropped
-column-skip : {A : Type 0} (w m j : ℕ) (l : List A) → column w (m + j) l ≡ column w j (drop m l)
+pub column-skip : {A : Type 0} (w m j : ℕ) (l : List A) → column w (m + j) l ≡ column w j (drop m l)
 unfolding column
 column-skip w zero j l = ap (λ (n : ℕ). column w n l) (zero-add j)
 column-skip w (suc m) j [] = nil w (suc m + j)

@@ -3,3 +3,4 @@ pub mod View
 pub mod Machine
 pub mod Laws
 pub mod Sums
+pub mod Accounts

@@ -1,0 +1,71 @@
+-- What a ledger in bounds has, figure by figure. Assumes nothing.
+use mathlib.Core.Path.{_≡_, sym, ap, _∙_, subst}
+use mathlib.Core.Bool.{true}
+use mathlib.Core.List.{List}
+use Prim.Native.Nat.{ℕ, zero, suc, _+_, _*_, _^_, _≤_, _<_}
+use native.Mathlib.Nat.{le-of-eq}
+use native.Mathlib.Omega.{arith}
+use lib.IntN.{ℤ, pos, natAbs}
+use lib.ListN.{length, getD, replicate}
+use Rattle.lists.specs.Lists.{Within, atMost, every}
+use Rattle.lists.specs.Columns.{column}
+use Rattle.lists.proofs.Questions.{both, and-both, every-at, every-all, at-most-at, at-most-all}
+use Rattle.lists.proofs.Rows.{column-at, at-replicate}
+use Rattle.lists.proofs.Strides.{by-columns}
+use Rattle.signed.specs.Figures.{isWithin}
+use Rattle.signed.proofs.Laws.{within-abs, abs-within}
+use Rattle.ledger.specs.Ledger.{Ledger, inBounds, netColumn, moneyColumn, zeros, allottedWidth, accountsWidth}
+use Rattle.ledger.specs.Posting.{Near, Summable}
+
+-- every allotted figure; the net and the money of row i; every account, net or money
+pub record Bounded (l : Ledger) : Type 0 where
+  pub allotted : Within (l .allotted) (1488 * 10 ^ 9)
+  pub net : (i : ℕ) → natAbs (getD (l .accounts) (2 * i) (pos 0)) ≤ 1488 * 10 ^ 9
+  pub money : (i : ℕ) → natAbs (getD (l .accounts) (2 * i + 1) (pos 0)) ≤ 1488 * 10 ^ 13
+  pub accounts : Near (l .accounts) (1488 * 10 ^ 13)
+
+-- the figures of a column within a bound, by row and by place
+module _ (b : ℕ) (j : ℕ) (l : List ℤ) (e : every (isWithin b) (column accountsWidth j l) ≡ true) where
+  row-near : (i : ℕ) → natAbs (getD (column accountsWidth j l) i (pos 0)) ≤ b
+  row-near i = within-abs b _ (every-at (isWithin b) (column accountsWidth j l) (pos 0) (abs-within b (pos 0) (omega arith)) e i)
+
+  place-near : (i k : ℕ) → k ≡ j + i * accountsWidth → natAbs (getD l k (pos 0)) ≤ b
+  place-near i k p =
+      subst (λ (z : ℤ). natAbs z ≤ b) (column-at accountsWidth j (omega arith) l i (pos 0) ∙ ap (λ (n : ℕ). getD l n (pos 0)) (sym p)) (row-near i)
+
+pub bounded : (l : Ledger) → inBounds l ≡ true → Bounded l
+unfolding inBounds
+bounded l e =
+    let p = both (atMost (1488 * 10 ^ 9) (l .allotted)) _ e in
+    let q = both (every (isWithin (1488 * 10 ^ 9)) (netColumn l)) _ (p .1) in
+    record {
+      allotted = record { at = at-most-at (l .allotted) (1488 * 10 ^ 9) (p .0) };
+      net = λ i. place-near (1488 * 10 ^ 9) 0 (l .accounts) (q .0) i (2 * i) (omega arith);
+      money = λ i. place-near (1488 * 10 ^ 13) 1 (l .accounts) (q .1) i (2 * i + 1) (omega arith);
+      accounts = record { at = by-columns (λ z. natAbs z ≤ 1488 * 10 ^ 13) accountsWidth (omega arith) (l .accounts) (pos 0) (columns (q .0) (q .1)) };
+    }
+  where
+    columns : every (isWithin (1488 * 10 ^ 9)) (netColumn l) ≡ true → every (isWithin (1488 * 10 ^ 13)) (moneyColumn l) ≡ true
+        → (j : ℕ) → j < accountsWidth → (i : ℕ) → natAbs (getD (column accountsWidth j (l .accounts)) i (pos 0)) ≤ 1488 * 10 ^ 13
+    columns f g zero h i = let a = row-near (1488 * 10 ^ 9) 0 (l .accounts) f i in omega arith
+    columns f g (suc zero) h i = row-near (1488 * 10 ^ 13) 1 (l .accounts) g i
+    columns f g (suc (suc j)) h i = absurd (omega arith)
+
+-- the accounts of a ledger in bounds, of at most 512 plants
+pub summable : (l : Ledger) → inBounds l ≡ true → length (l .accounts) ≤ 1024 → Summable (l .accounts)
+summable l e h = record { short = h; small = bounded l e .accounts }
+
+-- zeros are in bounds
+pub zeros-in-bounds : (p : ℕ) → inBounds (zeros p) ≡ true
+unfolding inBounds zeros
+zeros-in-bounds p =
+    and-both _ _ (at-most-all (replicate (allottedWidth * p) 0) (1488 * 10 ^ 9) nil)
+    (and-both _ _ (near (1488 * 10 ^ 9) 0) (near (1488 * 10 ^ 13) 1))
+  where
+    nil : (i : ℕ) → getD (replicate (allottedWidth * p) 0) i 0 ≤ 1488 * 10 ^ 9
+    nil i = omega (arith, le-of-eq (at-replicate (allottedWidth * p) i 0))
+
+    near : (b j : ℕ) → every (isWithin b) (column accountsWidth j (replicate (accountsWidth * p) (pos 0))) ≡ true
+    near b j =
+        every-all (isWithin b) (column accountsWidth j (replicate (accountsWidth * p) (pos 0))) (pos 0) (λ i. abs-within b _
+        (let z = ap natAbs (column-at accountsWidth j (omega arith) (replicate (accountsWidth * p) (pos 0)) i (pos 0) ∙ at-replicate (accountsWidth * p) (j + i * accountsWidth) (pos 0)) in omega arith))

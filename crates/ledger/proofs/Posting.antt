@@ -1,0 +1,69 @@
+-- An hour added to the ledger: what its figures are afterwards, and that no sum wraps. Assumes nothing.
+use mathlib.Core.Path.{_≡_, refl, sym, ap, ap₂, _∙_}
+use mathlib.Core.Bool.{_&&_}
+use mathlib.Core.List.{List, map}
+use Prim.Native.Nat.{ℕ, _+_, _*_, _^_, _≤_, _<_}
+use native.Mathlib.Nat.{mul-le-mul}
+use native.Mathlib.Omega.{arith}
+use lib.IntN.{ℤ, pos, natAbs, _+ℤ_, _*ℤ_}
+use lib.ListN.{length, getD, length-map}
+use Rattle.lists.specs.Lists.{atMost, every}
+use Rattle.lists.specs.Columns.{_⊕_, _⊕ℤ_, column}
+use Rattle.lists.proofs.Columns.{getD-rowwise, length-rowwise}
+use Rattle.lists.proofs.Rows.{column-at, column-rowwise, length-column}
+use Rattle.signed.specs.Figures.{accountsOf, isWithin}
+use Rattle.signed.proofs.Accounts.{atRate, at-rate, rate-one, accounts-net, accounts-money}
+use Rattle.signed.proofs.View.{abs-times}
+use Rattle.ledger.specs.Ledger.{Ledger, inBounds, added, accountsWidth}
+use Rattle.ledger.specs.Posting.{Addable, Payable, Postable, hourFigures}
+use Rattle.ledger.proofs.Bounds.{bounded}
+
+module _ {accounts nets : List ℤ} {rate : ℕ} (h : Payable accounts nets rate) (i : ℕ) where
+  -- a net at its rate
+  pub rated-small : natAbs (getD nets i (pos 0) *ℤ pos rate) ≤ 4 * 10 ^ 13
+  rated-small =
+      omega (arith, abs-times (getD nets i (pos 0)) rate, mul-le-mul {m₂ = 10000} (h .hour .at i) (h .low))
+
+-- a column with each row's net added at a rate
+module _ (accounts nets : List ℤ) (rate start : ℕ) (h : Payable accounts nets rate) (k : start < accountsWidth) where
+  abbrev pub after : List ℤ
+  after = column accountsWidth start accounts ⊕ℤ atRate rate nets
+
+  pub length-after : length after ≡ length nets
+  length-after =
+      length-rowwise _+ℤ_ (pos 0) (pos 0) (column accountsWidth start accounts) (atRate rate nets)
+      ∙ (let a = length-column (pos 0) accountsWidth start k accounts (length nets) (h .rows) in let b = length-map nets (λ z. z *ℤ pos rate) in omega arith)
+
+  pub after-at : (i : ℕ) → getD after i (pos 0) ≡ getD accounts (accountsWidth * i + start) (pos 0) +ℤ getD nets i (pos 0) *ℤ pos rate
+  after-at i =
+      let place : start + i * accountsWidth ≡ accountsWidth * i + start = omega arith in
+      getD-rowwise _+ℤ_ (pos 0) (pos 0) refl (column accountsWidth start accounts) (atRate rate nets) i
+      ∙ ap₂ (λ x y. x +ℤ y)
+      (column-at accountsWidth start (omega arith) accounts i (pos 0) ∙ ap (λ (n : ℕ). getD accounts n (pos 0)) place)
+      (at-rate rate nets i)
+
+-- what the parts of a posting ask for
+module _ {l : Ledger} {allotment : List ℕ} {nets : List ℤ} {tariff : ℕ} (h : Postable l allotment nets tariff) where
+  pub addable : Addable (l .allotted) allotment
+  addable = record { same = h .figures; ledger = bounded l (h .inside) .allotted; hour = h .allotmentSmall }
+
+  pub payable : (rate : ℕ) → rate ≤ 10000 → Payable (l .accounts) nets rate
+  payable rate k = record { rows = h .rows; ledger = bounded l (h .inside) .accounts; hour = h .netsSmall; low = k }
+
+-- 19 of the ledger as it would be, column by column: the nets at the rate 1, the money at the tariff
+pub bounds-after : (l : Ledger) (allotment : List ℕ) (nets : List ℤ) (tariff : ℕ)
+    → inBounds (added l (hourFigures allotment nets tariff))
+    ≡ (atMost (1488 * 10 ^ 9) (l .allotted ⊕ allotment)
+    && (every (isWithin (1488 * 10 ^ 9)) (column accountsWidth 0 (l .accounts) ⊕ℤ atRate 1 nets)
+    && every (isWithin (1488 * 10 ^ 13)) (column accountsWidth 1 (l .accounts) ⊕ℤ atRate tariff nets)))
+unfolding inBounds added
+bounds-after l allotment nets tariff =
+    ap₂ (λ (xs ys : List ℤ). atMost (1488 * 10 ^ 9) (l .allotted ⊕ allotment) && (every (isWithin (1488 * 10 ^ 9)) xs && every (isWithin (1488 * 10 ^ 13)) ys))
+    (columns 0 (accounts-net tariff nets ∙ sym (rate-one nets)))
+    (columns 1 (accounts-money tariff nets))
+  where
+    columns : (j : ℕ) {xs : List ℤ} → column accountsWidth j (accountsOf tariff nets) ≡ xs
+        → column accountsWidth j (l .accounts ⊕ℤ accountsOf tariff nets) ≡ column accountsWidth j (l .accounts) ⊕ℤ xs
+    columns j e =
+        column-rowwise _+ℤ_ (pos 0) (pos 0) accountsWidth j (l .accounts) (accountsOf tariff nets)
+        ∙ ap (λ (zs : List ℤ). column accountsWidth j (l .accounts) ⊕ℤ zs) e

@@ -1,0 +1,52 @@
+-- `ledger::account_sum` meets its contract: what is summed, with what is left of the column, is the column's sum. Assumes nothing.
+use mathlib.Core.Path.{_≡_, refl, sym, subst}
+use Prim.Native.Nat.{_-_, _+_}
+use native.Mathlib.Omega.{arith}
+use borrow.Author.Needs.{needs}
+use lib.IntN.{ℤ, pos, _+ℤ_}
+use lib.ListN.{length, getD}
+use mir.Syntax.{w64}
+use mir.Val.{toZ, ofZ}
+use Rattle.signed.proofs.Machine.{read-is, op-fits, op-is}
+use Rattle.ledger.specs.Ledger.{accountsWidth}
+use Rattle.ledger.proofs.Sums.{Totalling, totalling, totalling-small, totalling-more, totalled}
+use Rattle.ledger.proofs.account_sum.Statement.{statement}
+use Rattle.ledger.proofs.account_sum.Tie as tie
+
+abbrev Inv-loop : tie.InvT-loop
+Inv-loop start accounts total₀ i₀ total i = Totalling start accounts i (toZ w64 total)
+
+abbrev μ-loop : tie.MeasureT-loop
+μ-loop start accounts total₀ i₀ total i = length accounts - i
+
+-- the figure, as the machine reads it
+figure-is : (c : tie.After-total Inv-loop μ-loop)
+    → let x = getD (c .before .before .before .args .accounts .now) (c .before .before .loop .i) (pos 0) in toZ w64 (ofZ w64 x) ≡ x
+figure-is c = read-is _ (c .total .given)
+
+add-total : tie.Need-add-total Inv-loop μ-loop
+add-total c =
+    let a = c .before .before in
+    op-fits _+ℤ_ {m = toZ w64 (a .loop .total)} refl (figure-is c) (totalling-small (a .before .pre) (a .loop .inv) (c .before .loop-test .taken))
+
+loop-again : tie.Need-loop-again Inv-loop μ-loop
+loop-again c =
+    let a = c .before .before in
+    subst (λ (z : ℤ). Totalling (a .before .args .start) (a .before .args .accounts .now) (a .loop .i + accountsWidth) z)
+    (sym (op-is _+ℤ_ {m = toZ w64 (a .loop .total)} refl (figure-is c) (totalling-small (a .before .pre) (a .loop .inv) (c .before .loop-test .taken))))
+    (totalling-more (a .before .pre) (a .loop .inv) (c .before .loop-test .taken))
+
+pub account-sum-spec : {M : Type 1} → statement M
+account-sum-spec =
+    tie.close
+    (tie.spec
+    Inv-loop
+    μ-loop
+    (λ c. totalling)
+    (λ c. search needs)
+    (λ c. search needs)
+    add-total
+    (λ c. search needs)
+    (λ c. search needs)
+    loop-again
+    (λ c. totalled (c .before .loop .inv) (c .loop-test .left)))

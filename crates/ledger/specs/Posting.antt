@@ -1,0 +1,45 @@
+-- What an hour adds to the ledger, and what the inner functions ask of figures so that no sum wraps. Assumes nothing.
+use mathlib.Core.Path.{_≡_}
+use mathlib.Core.Bool.{true}
+use mathlib.Core.List.{List}
+use Prim.Native.Nat.{ℕ, _*_, _^_, _≤_}
+use lib.IntN.{ℤ, pos, natAbs}
+use lib.ListN.{length, getD}
+use Rattle.lists.specs.Lists.{Within}
+use Rattle.signed.specs.Figures.{accountsOf}
+use Rattle.ledger.specs.Ledger.{Ledger, inBounds, accountsWidth}
+
+-- an hour's figures: each row's allotted kWh, its net, and net × TEO as money
+abbrev pub hourFigures : List ℕ → List ℤ → ℕ → Ledger
+hourFigures allotment nets tariff = record { allotted = allotment; accounts = accountsOf tariff nets }
+
+-- each figure within the bound of zero, as a fact
+pub record Near (l : List ℤ) (bound : ℕ) : Type 0 where
+  pub at : (i : ℕ) → natAbs (getD l i (pos 0)) ≤ bound
+
+-- figures of the ledger, and as many of an hour to be added to them
+pub record Addable (figures more : List ℕ) : Type 0 where
+  pub same : length figures ≡ length more
+  pub ledger : Within figures (1488 * 10 ^ 9)
+  pub hour : Within more (2 * 10 ^ 9)
+
+-- accounts of the ledger, and a net for each row, to be added at a rate
+pub record Payable (accounts nets : List ℤ) (rate : ℕ) : Type 0 where
+  pub rows : length accounts ≡ accountsWidth * length nets
+  pub ledger : Near accounts (1488 * 10 ^ 13)
+  pub hour : Near nets (4 * 10 ^ 9)
+  pub low : rate ≤ 10000
+
+-- an hour that may be added to a ledger: the ledger is in bounds, the lists have its lengths, the figures are those that an hour can have
+pub record Postable (l : Ledger) (allotment : List ℕ) (nets : List ℤ) (tariff : ℕ) : Type 0 where
+  pub inside : inBounds l ≡ true
+  pub figures : length (l .allotted) ≡ length allotment
+  pub rows : length (l .accounts) ≡ accountsWidth * length nets
+  pub allotmentSmall : Within allotment (2 * 10 ^ 9)
+  pub netsSmall : Near nets (4 * 10 ^ 9)
+  pub tariffSmall : tariff ≤ 10000
+
+-- accounts whose columns may be added up: at most 512 rows, each figure within the bound of money
+pub record Summable (accounts : List ℤ) : Type 0 where
+  pub short : length accounts ≤ accountsWidth * 512
+  pub small : Near accounts (1488 * 10 ^ 13)

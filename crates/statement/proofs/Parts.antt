@@ -2,12 +2,12 @@
 use mathlib.Core.Path.{_≡_, refl, sym, ap, subst, _∙_}
 use mathlib.Core.List.{List, [], _∷_, _++_}
 use Prim.Native.Nat.{ℕ, suc, _+_, _≤_, _<_}
-use native.Mathlib.Nat.{add-zero}
+use native.Mathlib.Nat.{add-zero, zero-add}
 use native.Mathlib.Omega.{arith}
-use lib.ListN.{length, set, length-append, take-append-drop}
+use lib.ListN.{length, drop, set, length-append, take-append-drop}
 use Rattle.lines.specs.Figures.{written}
 use Rattle.lines.proofs.Written.{written-byte, written-next, length-written}
-use Rattle.statement.specs.Writing.{field, Room, Wrote}
+use Rattle.statement.specs.Writing.{field, Room, Wrote, Fills}
 
 -- of the bytes to be written from at₀ on, `rest` is left to write, from `at` on
 pub record Left (bytes : List ℕ) (at₀ : ℕ) (text₀ : List ℕ) (at : ℕ) (text rest : List ℕ) : Type 0 where
@@ -83,3 +83,8 @@ unfolding field
 wrote-two {text} {at} {a} {b} h =
     let first : Wrote (a ∷ []) at text (at + 1) (set text at a) = wrote-byte text at a (omega (arith, h .fits)) in
     record { place = refl; text = wrote-field (a ∷ []) b h first .text }
+
+-- written from the first byte on
+pub fills : {bytes before : List ℕ} {r : ℕ} {after : List ℕ} → Wrote bytes 0 before r after → Fills bytes before r after
+unfolding written
+fills {bytes} {before} w = record { size = w .place ∙ zero-add (length bytes); text = w .text ∙ ap (λ (n : ℕ). bytes ++ drop n before) (zero-add (length bytes)) }

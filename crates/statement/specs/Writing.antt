@@ -1,11 +1,13 @@
 -- Bytes written to a place of a lent text. Assumes nothing.
 use mathlib.Core.Path.{_≡_}
+use mathlib.Core.Bool.{true}
 use mathlib.Core.List.{List, [], _∷_, _++_}
 use Prim.Native.Nat.{ℕ, _+_, _*_, _≤_}
 use lib.IntN.{ℤ, pos}
 use lib.ListN.{length, take, drop, getD}
 use Rattle.lines.specs.Figures.{figure, written}
 use Rattle.hour.specs.declared.Plant.{Plant}
+use Rattle.ledger.specs.Ledger.{Ledger, inBounds}
 use Rattle.statement.specs.Statement.{plantLine}
 
 -- a field, and the byte behind it: a comma, or the line's end
@@ -35,6 +37,12 @@ pub record Even (submarket number allotted : List ℕ) (accounts : List ℤ) : T
   pub numbers : length number ≡ length submarket
   pub figures : length allotted ≡ 4 * length submarket
   pub nets : length accounts ≡ 2 * length submarket
+
+-- what the inner forms ask: lists of those lengths, at most 512 rows (2), every ledger figure inside its bound (19)
+pub record Stateable (submarket number : List ℕ) (l : Ledger) : Type 0 where
+  pub even : Even submarket number (l .allotted) (l .accounts)
+  pub few : length submarket ≤ 512
+  pub bounded : inBounds l ≡ true
 
 -- the text has room for the bytes from `at` on
 pub record Room (bytes : List ℕ) (at : ℕ) (text : List ℕ) : Type 0 where

@@ -1,13 +1,14 @@
 // The statement's lines, written from a position on. Every function answers the position behind what it wrote.
 ghost use mathlib.Core.Path.{_≡_};
 ghost use mathlib.Core.List.{[], _∷_};
-ghost use Prim.Native.Nat.{_*_, _<_, _^_};
+ghost use Prim.Native.Nat.{_*_, _≤_, _<_, _^_};
 ghost use lib.ListN.{length};
 ghost use Rattle.lists.specs.Lists.{sum};
 ghost use Rattle.lines.specs.Figures.{figure, signedFigure};
-ghost use Rattle.statement.specs.Writing.{field, fieldsText, leading, shown, rowLine, Even, Room, Wrote};
+ghost use Rattle.statement.specs.Writing.{field, fieldsText, leading, shown, rowLine, Even, Stateable, Room, Wrote, Fills};
 ghost use Rattle.hour.specs.Table.{plantsOf};
-ghost use Rattle.statement.specs.Statement.{plantLine, plantLines, totalLine};
+ghost use Rattle.statement.specs.Statement.{plantLine, plantLines, totalLine, statementText};
+ghost use Rattle.statement.specs.Lengths.{statementLength};
 use lines::figures::write_figure;
 use lines::figures::write_signed_figure;
 
@@ -158,4 +159,22 @@ fn write_total_line(settled: u64, plants: u64, columns: &[u64], text: &mut [u8],
     let total = sum_of(columns);
     let end = write_leading(b'T', settled, plants, columns, text, at);
     write_field(total, b'\n', text, end)
+}
+
+// The statement, to the front of the text. The answer is its length, and the rest of the text stays.
+pub fn write_statement(
+    settled: u64,
+    submarket: &[u64],
+    number: &[u64],
+    allotted: &[u64],
+    accounts: &[i64],
+    text: &mut [u8],
+) -> usize
+    requires { ⌜ Stateable (now submarket) (now number) (record { allotted = now allotted; accounts = now accounts }) ⌝ }
+    requires { ⌜ statementLength settled (plantsOf (now submarket) (now number) [] [] []) (record { allotted = now allotted; accounts = now accounts }) ≤ length (now text) ⌝ }
+    ensures { λ r. ⌜ Fills (statementText settled (plantsOf (now (submarket .entry)) (now (number .entry)) [] [] []) (record { allotted = now (allotted .entry); accounts = now (accounts .entry) })) (now (text .entry)) r (now (text .exit)) ⌝ }
+{
+    let columns = ledger::column_sums(allotted);
+    let end = write_plant_lines(submarket, number, allotted, accounts, text, 0);
+    write_total_line(settled, submarket.len() as u64, &columns, text, end)
 }

@@ -51,6 +51,14 @@ pub fields-none : (xs : List ℕ) (i : ℕ) → length xs ≤ i → fieldsText (
 unfolding fieldsText
 fields-none xs i h = rest-none fieldsText xs i h
 
+pub fields-length-more : (xs : List ℕ) (i : ℕ) → i < length xs → fieldsLength (drop i xs) ≡ figureLength (getD xs i 0) + 1 + fieldsLength (drop (i + 1) xs)
+unfolding fieldsLength
+fields-length-more xs i h = rest-more fieldsLength xs i 0 h
+
+pub fields-length-none : (xs : List ℕ) (i : ℕ) → length xs ≤ i → fieldsLength (drop i xs) ≡ 0
+unfolding fieldsLength
+fields-length-none xs i h = rest-none fieldsLength xs i h
+
 -- the parts of an A line, and of the T line
 pub plant-line-is : (p : Plant) (figures : List ℕ) (net money : ℤ)
     → plantLine p figures net money ≡ leading 65 (p .submarket) (p .number) figures ++ (field (signedFigure net) 44 ++ field (signedFigure money) 10)
@@ -94,6 +102,21 @@ module _ (ss ns al : List ℕ) (ac : List ℤ) where
       let past : length (plantsOf ss ns [] [] []) ≤ i = omega (arith, length-plants ss ns [] [] []) in
       ap (λ (ps : List Plant). plantLines ps (drop (4 * i) al) (drop (2 * i) ac)) (drop-of-length-le (plantsOf ss ns [] [] []) past)
 
+-- only submarkets and numbers are shown
+lines-columns : (ss ns gs ls vs al : List ℕ) (ac : List ℤ) → plantLines (plantsOf ss ns gs ls vs) al ac ≡ plantLines (plantsOf ss ns [] [] []) al ac
+unfolding plantLines plantLine plantsOf
+lines-columns [] ns gs ls vs al ac = refl
+lines-columns (s ∷ ss) ns gs ls vs al ac =
+    ap (λ (l : List ℕ). plantLine (shown s (getD ns 0 0)) (take 4 al) (getD ac 0 (pos 0)) (getD ac 1 (pos 0)) ++ l)
+    (lines-columns ss (drop 1 ns) (drop 1 gs) (drop 1 ls) (drop 1 vs) (drop 4 al) (drop 2 ac))
+
+pub text-columns : (settled : ℕ) (ss ns gs ls vs : List ℕ) (l : Ledger) → statementText settled (plantsOf ss ns gs ls vs) l ≡ statementText settled (plantsOf ss ns [] [] []) l
+unfolding statementText
+text-columns settled ss ns gs ls vs l =
+    ap₂ (λ (a : List ℕ) (n : ℕ). a ++ totalLine settled n (four (λ s. sum (allottedIn s l))))
+    (lines-columns ss ns gs ls vs (l .allotted) (l .accounts))
+    (length-plants ss ns gs ls vs ∙ sym (length-plants ss ns [] [] []))
+
 -- the line of row i, as the code lends and reads its figures
 pub row-line : (ss ns al : List ℕ) (ac : List ℤ) (i : ℕ) {net money : ℤ} → net ≡ getD ac (2 * i) (pos 0) → money ≡ getD ac (2 * i + 1) (pos 0)
     → rowLine ss ns al ac i ≡ plantLine (shown (getD ss i 0) (getD ns i 0)) (take (4 * i + 4 - 4 * i) (drop (4 * i) al)) net money
@@ -131,6 +154,17 @@ length-plant-lines [] allotted accounts = refl
 length-plant-lines (p ∷ ps) allotted accounts =
     length-append (plantLine p (take 4 allotted) (getD accounts 0 (pos 0)) (getD accounts 1 (pos 0))) (plantLines ps (drop 4 allotted) (drop 2 accounts))
     ∙ ap₂ _+_ (length-plant-line p (take 4 allotted) (getD accounts 0 (pos 0)) (getD accounts 1 (pos 0))) (length-plant-lines ps (drop 4 allotted) (drop 2 accounts))
+
+-- ... of the rows from i on
+module _ (ss ns al : List ℕ) (ac : List ℤ) where
+  pub lengths-all : length (linesFrom ss ns al ac 0) ≡ plantLinesLength (plantsOf ss ns [] [] []) al ac
+  lengths-all = ap length (sym (lines-all ss ns al ac)) ∙ length-plant-lines (plantsOf ss ns [] [] []) al ac
+
+  pub lengths-more : (i : ℕ) → i < length ss → length (linesFrom ss ns al ac i) ≡ length (rowLine ss ns al ac i) + length (linesFrom ss ns al ac (i + 1))
+  lengths-more i h = ap length (lines-more ss ns al ac i h) ∙ length-append (rowLine ss ns al ac i) (linesFrom ss ns al ac (i + 1))
+
+  pub lengths-none : (i : ℕ) → length ss ≤ i → length (linesFrom ss ns al ac i) ≡ 0
+  lengths-none i h = ap length (lines-none ss ns al ac i h)
 
 -- the statement takes as many bytes as its length says
 pub length-statement : (settled : ℕ) (plants : List Plant) (l : Ledger) → length (statementText settled plants l) ≡ statementLength settled plants l

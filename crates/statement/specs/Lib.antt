@@ -3,3 +3,4 @@ pub mod Statement
 pub mod Worked
 pub mod Lengths
 pub mod Writing
+pub mod Laws

@@ -137,7 +137,7 @@ fn write_plant_lines(
 }
 
 // The sum of the columns.
-fn sum_of(columns: &[u64]) -> u64
+pub fn sum_of(columns: &[u64]) -> u64
     requires { ⌜ sum (now columns) < 2 ^ 64 ⌝ }
     ensures { λ r. ⌜ r ≡ sum (now (columns .entry)) ⌝ }
 {

@@ -1,7 +1,7 @@
 -- `writing::write_statement` meets its contract. Assumes nothing.
 use mathlib.Core.Path.{_≡_, refl, sym, ap₂}
 use mathlib.Core.List.{List, [], _++_}
-use Prim.Native.Nat.{ℕ, _≤_, _<_, _^_}
+use Prim.Native.Nat.{ℕ}
 use native.Mathlib.Omega.{arith}
 use borrow.Author.Needs.{needs}
 use lib.ListN.{length}
@@ -11,10 +11,9 @@ use Rattle.hour.specs.Table.{plantsOf}
 use Rattle.hour.proofs.Table.{length-plants}
 use Rattle.hour.specs.declared.Plant.{Plant}
 use Rattle.ledger.specs.Ledger.{Ledger, allottedIn}
-use Rattle.ledger.proofs.Bounds.{bounded}
 use Rattle.statement.specs.Statement.{plantLines, totalLine, statementText}
 use Rattle.statement.proofs.Text.{length-statement}
-use Rattle.statement.proofs.Limits.{columns-low}
+use Rattle.statement.proofs.Limits.{sums-asked, sums-fit}
 use Rattle.statement.proofs.Parts.{Left, left-all, left-room, left-more, left-fits, left-last, fills}
 use Rattle.statement.proofs.writing.write_statement.Statement.{statement}
 use Rattle.statement.proofs.writing.write_statement.Tie as tie
@@ -48,17 +47,14 @@ module _ (c : tie.After-column-sums) where
   total-is : total entry ≡ totalLine (entry .args .settled) (length (entry .args .submarket .now)) (c .column-sums .result)
   total-is = ap₂ (totalLine (entry .args .settled)) (length-plants (entry .args .submarket .now) _ _ _ _) (sym (c .column-sums .ensures))
 
-  sums-fit : sum (c .column-sums .result) < 2 ^ 64
-  sums-fit = let p = entry .pre .0 in rw (c .column-sums .ensures) (omega (arith, columns-low (figures entry) (p .bounded) (omega (arith, p .few, p .even .figures))))
-
 pub write-statement-spec : {M : Type 1} → statement M
 write-statement-spec =
     tie.close
     (tie.spec
-    (λ c κs. let p = c .before .before .before .before .pre .0 in (omega (arith, p .few, p .even .figures), bounded (figures (c .before .before .before .before)) (p .bounded) .allotted))  -- column-sums-requires
+    (λ c κs. sums-asked (c .before .before .before .before .pre .0))  -- column-sums-requires
     (λ c κs. let s = c .before .before .before .before .before .before in (s .pre .0 .even, left-room (at-start s) _ _ refl))  -- write-plant-lines-requires
     (λ c. search needs)  -- slice-aggregate-write-total-line
-    (λ c κs. let l = c .before .before .before .before in (sums-fit (l .before .before), left-fits (at-total l) (total-is (l .before .before))))  -- write-total-line-requires
+    (λ c κs. let l = c .before .before .before .before in (sums-fit (entry (l .before .before) .pre .0) (l .before .before .column-sums .ensures), left-fits (at-total l) (total-is (l .before .before))))  -- write-total-line-requires
     (λ c. search needs)  -- same-length
     (λ c.
     let l = c .before .before .before .before .before .before .before in

@@ -141,13 +141,13 @@ pub fn sum_of(columns: &[u64]) -> u64
     requires { ⌜ sum (now columns) < 2 ^ 64 ⌝ }
     ensures { λ r. ⌜ r ≡ sum (now (columns .entry)) ⌝ }
 {
-    let mut s: u64 = 0;
-    let mut i: usize = 0;
-    while i < columns.len() {
-        s += columns[i];
-        i += 1;
+    let mut total: u64 = 0;
+    let mut column: usize = 0;
+    while column < columns.len() {
+        total += columns[column];
+        column += 1;
     }
-    s
+    total
 }
 
 // The T line: periods settled, P, column sums, their sum.

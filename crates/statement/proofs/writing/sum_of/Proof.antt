@@ -6,10 +6,10 @@ use Rattle.statement.proofs.writing.sum_of.Statement.{statement}
 use Rattle.statement.proofs.writing.sum_of.Tie as tie
 
 abbrev Inv-loop : tie.InvT-loop
-Inv-loop columns s₀ i₀ s i = Adding columns i s
+Inv-loop columns total₀ column₀ total column = Adding columns column total
 
 abbrev μ-loop : tie.MeasureT-loop
-μ-loop columns s₀ i₀ s i = length columns - i
+μ-loop columns total₀ column₀ total column = length columns - column
 
 pub sum-of-spec : {M : Type 1} → statement M
 sum-of-spec =

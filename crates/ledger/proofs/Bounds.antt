@@ -2,19 +2,19 @@
 use mathlib.Core.Path.{_≡_, sym, ap, _∙_, subst}
 use mathlib.Core.Bool.{true}
 use mathlib.Core.List.{List}
-use Prim.Native.Nat.{ℕ, zero, suc, _+_, _*_, _^_, _≤_, _<_}
-use native.Mathlib.Nat.{le-of-eq}
+use Prim.Native.Nat.{ℕ, zero, suc, _+_, _-_, _*_, _^_, _≤_, _<_}
+use native.Mathlib.Nat.{le-of-eq, mul-le-mul-right}
 use native.Mathlib.Omega.{arith}
 use lib.IntN.{ℤ, pos, natAbs}
 use lib.ListN.{length, getD, replicate}
-use Rattle.lists.specs.Lists.{Within, atMost, every}
+use Rattle.lists.specs.Lists.{Within, atMost, every, sum}
 use Rattle.lists.specs.Columns.{column}
 use Rattle.lists.proofs.Questions.{both, and-both, every-at, every-all, at-most-at, at-most-all}
 use Rattle.lists.proofs.Rows.{column-at, at-replicate}
-use Rattle.lists.proofs.Strides.{by-columns}
+use Rattle.lists.proofs.Strides.{by-columns, column-within}
 use Rattle.signed.specs.Figures.{isWithin}
 use Rattle.signed.proofs.Laws.{within-abs, abs-within}
-use Rattle.ledger.specs.Ledger.{Ledger, inBounds, netColumn, moneyColumn, zeros, allottedWidth, accountsWidth}
+use Rattle.ledger.specs.Ledger.{Ledger, inBounds, allottedIn, netColumn, moneyColumn, zeros, allottedWidth, accountsWidth}
 use Rattle.ledger.specs.Posting.{Near, Summable}
 
 -- every allotted figure; the net and the money of row i; every account, net or money
@@ -54,6 +54,11 @@ bounded l e =
 -- the accounts of a ledger in bounds, of at most 512 plants
 pub summable : (l : Ledger) → inBounds l ≡ true → length (l .accounts) ≤ 1024 → Summable (l .accounts)
 summable l e h = record { short = h; small = bounded l e .accounts }
+
+-- each column sum of a ledger in bounds, of at most 512 plants
+pub column-small : (l : Ledger) → inBounds l ≡ true → length (l .allotted) ≤ 2048 → (s : ℕ) → sum (allottedIn s l) ≤ 2048 * (1488 * 10 ^ 9)
+column-small l e h s =
+    omega (arith, column-within allottedWidth (s - 1) (l .allotted) (1488 * 10 ^ 9) (bounded l e .allotted), mul-le-mul-right (1488 * 10 ^ 9) h)
 
 -- zeros are in bounds
 pub zeros-in-bounds : (p : ℕ) → inBounds (zeros p) ≡ true

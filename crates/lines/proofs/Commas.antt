@@ -6,12 +6,13 @@ use Prim.Native.Nat.{ℕ, zero, suc, _+_, _-_, _≤_, _<_, zero-le}
 use native.Mathlib.Nat.{add-zero}
 use native.Mathlib.Numerals.{add-one}
 use native.Mathlib.Omega.{arith}
-use borrow.Author.Tests.{eq-eqb, ne-eqb, ltb-true, ltb-false}
+use borrow.Author.Tests.{eq-eqb, ne-eqb, eqb-true, eqb-false, ltb-true, ltb-false}
 use lib.Dec.{eqb, ltb}
 use lib.ListN.{length, take, drop, getD, length-drop, drop-of-length-le}
 use lib.Seq.{drop-cons, getD-drop, drop-drop, drop-nil, take-all, length-take-le}
 use Rattle.lists.proofs.Questions.{refuses, accepts}
-use Rattle.lines.specs.Fields.{toComma, nextComma, firstField, fields, toFirst, Starts, fieldNumber, fieldBytes}
+use Rattle.lines.specs.Fields.{toComma, nextComma, fields, toFirst, fieldNumber, fieldBytes}
+use Rattle.lines.specs.Inner.{firstField, Starts}
 
 -- ---- one byte more
 
@@ -171,3 +172,50 @@ module _ (l : List ℕ) (index : ℕ) where
   pub bytes-there : {f : List ℕ} → 0 ≡ fieldNumber l index → f ≡ getD (fields l) index [] → f ≡ fieldBytes l index
   unfolding fieldBytes
   bytes-there e p = accepts 0 (fieldNumber l index) _ _ _ e refl p
+
+-- ---- the next comma is the first
+
+before-comma : (l : List ℕ) (k : ℕ) → k < toComma l → getD l k 0 ≡ 44 → ⊥
+unfolding toComma
+before-comma [] k h e = omega arith
+before-comma (b ∷ bs) k h e = by (eqb b 44) refl k h e (before-comma bs)
+  where
+    by : (t : Bool) → eqb b 44 ≡ t → (k : ℕ) → k < cond t 0 (suc (toComma bs)) → getD (b ∷ bs) k 0 ≡ 44 → ((k : ℕ) → k < toComma bs → getD bs k 0 ≡ 44 → ⊥) → ⊥
+    by true q k h e ih = omega arith
+    by false q zero h e ih = eqb-false b 44 q e
+    by false q (suc k) h e ih = ih k (omega arith) e
+
+at-comma : (l : List ℕ) → toComma l < length l → getD l (toComma l) 0 ≡ 44
+unfolding toComma
+at-comma [] h = absurd (omega arith)
+at-comma (b ∷ bs) h = by (eqb b 44) refl h (at-comma bs)
+  where
+    by : (t : Bool) → eqb b 44 ≡ t → cond t 0 (suc (toComma bs)) < suc (length bs) → (toComma bs < length bs → getD bs (toComma bs) 0 ≡ 44)
+        → getD (b ∷ bs) (cond t 0 (suc (toComma bs))) 0 ≡ 44
+    by true q h ih = eqb-true b 44 q
+    by false q h ih = ih (omega arith)
+
+module _ (l : List ℕ) (i : ℕ) where
+  pub none-before : (k : ℕ) → i ≤ k → k < nextComma l i → getD l k 0 ≡ 44 → ⊥
+  unfolding nextComma
+  none-before k h q e =
+      let there : i + (k - i) ≡ k = omega arith in
+      before-comma (drop i l) (k - i) (omega arith) (getD-drop i l (k - i) 0 ∙ ap (λ (n : ℕ). getD l n 0) there ∙ e)
+
+  pub comma-there : nextComma l i < length l → getD l (nextComma l i) 0 ≡ 44
+  unfolding nextComma
+  comma-there h = sym (getD-drop i l (toComma (drop i l)) 0) ∙ at-comma (drop i l) (omega (arith, length-drop i l))
+
+  -- it is the only such place
+  pub next-is : (e : ℕ) → i ≤ e → e ≤ length l → ((k : ℕ) → i ≤ k → k < e → getD l k 0 ≡ 44 → ⊥) → (e < length l → getD l e 0 ≡ 44) → e ≡ nextComma l i
+  next-is e low high none there = by (ltb e (nextComma l i)) refl (ltb (nextComma l i) e) refl
+    where
+      by : (s : Bool) → ltb e (nextComma l i) ≡ s → (t : Bool) → ltb (nextComma l i) e ≡ t → e ≡ nextComma l i
+      by true p t q =
+          let less : e < nextComma l i = ltb-true e (nextComma l i) p in
+          let in-line = next-high l i (omega arith) in
+          absurd (none-before e low less (there (omega arith)))
+      by false p true q =
+          let less : nextComma l i < e = ltb-true (nextComma l i) e q in
+          absurd (none (nextComma l i) (next-low l i) less (comma-there (omega arith)))
+      by false p false q = omega (arith, ltb-false e (nextComma l i) p, ltb-false (nextComma l i) e q)

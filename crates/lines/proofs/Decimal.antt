@@ -1,16 +1,16 @@
 -- Laws of figures written: digit by digit, how long a figure is, and that reading it gives it back. Assumes nothing.
 use mathlib.Core.Path.{_≡_, refl, sym, ap, _∙_}
-use mathlib.Core.Bool.{Bool, true, false, cond}
-use mathlib.Core.List.{List, [], _∷_, _++_, append-assoc, append-nil}
+use mathlib.Core.Bool.{Bool, true, false}
+use mathlib.Core.List.{List, [], _∷_, _++_, append-assoc}
 use Prim.Native.Nat.{ℕ, zero, suc, _+_, _-_, _*_, _/_, _%_, _^_, _≤_, _<_}
-use native.Mathlib.Nat.{pow-succ', le-trans, pow-le-pow-right, div-lt-iff-lt-mul}
+use native.Mathlib.Nat.{pow-succ'}
 use native.Mathlib.Numerals.{add-one}
 use native.Mathlib.Omega.{arith}
 use borrow.Author.Tests.{lt-ltb, le-ltb, ltb-true, ltb-false}
 use lib.Dec.{ltb}
 use lib.ListN.{length, take, drop, set, length-append, length-set, take-append-drop}
 use lib.Seq.{take-set-le, drop-set-lt, drop-cons, getD-set-same}
-use Rattle.lines.specs.Figures.{digits, figure, figureLength, valueFrom, value, written}
+use Rattle.lines.specs.Figures.{digits, figure, figureLength, valueFrom, value, written, Wrote}
 
 -- ---- digit by digit
 
@@ -44,7 +44,7 @@ unfolding figureLength
 length-more x h = ap length (figure-more x h) ∙ length-append (figure (x / 10)) _ ∙ add-one _
 
 -- a law of figures follows from the figures below 10, and from that of x / 10 for each other x
-tens : {P : ℕ → Type 0} → ((x : ℕ) → x < 10 → P x) → ((x : ℕ) → 10 ≤ x → P (x / 10) → P x) → (x : ℕ) → P x
+pub tens : {P : ℕ → Type 0} → ((x : ℕ) → x < 10 → P x) → ((x : ℕ) → 10 ≤ x → P (x / 10) → P x) → (x : ℕ) → P x
 tens {P} small more x = down (suc x) x (omega arith)
   where
     by : (k x : ℕ) (t : Bool) → ltb x 10 ≡ t → x < suc k → (10 ≤ x → P (x / 10)) → P x
@@ -111,12 +111,16 @@ module _ {x at : ℕ} {text₀ : List ℕ} where
         whole = rw (take-set-le at text (i - 1) b (omega arith), stored, e) (rw (one-more, append-assoc) at (w .whole));
       }
 
-  pub written-whole : {i rest : ℕ} {text : List ℕ} → Writing x at text₀ i rest text → i ≤ at → text ≡ written text₀ at (figure x)
+  written-whole : {i rest : ℕ} {text : List ℕ} → Writing x at text₀ i rest text → i ≤ at → text ≡ written text₀ at (figure x)
   unfolding padded
   written-whole {i} {rest} {text} w h =
       let none : i - at ≡ 0 = omega arith in
       let here : i ≡ at = omega arith in
       sym (take-append-drop at text) ∙ (rw (none, here) at (w .whole))
+
+  pub wrote : {n i rest : ℕ} {text : List ℕ} → n ≡ figureLength x → Writing x at text₀ i rest text → i ≤ at → Wrote (figure x) at text₀ text (at + n)
+  unfolding figureLength
+  wrote e w h = record { behind = ap (λ (n : ℕ). at + n) e; text = written-whole w h }
 
 -- ---- reading a written figure gives the figure
 

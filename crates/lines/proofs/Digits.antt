@@ -1,19 +1,18 @@
 -- Laws of figures read: a loop over the digits of a field, and what question 29 asks of it. Assumes nothing.
-use mathlib.Core.Path.{_≡_, refl, sym, ap, _∙_}
-use mathlib.Core.Bool.{Bool, true, false, cond, not, _&&_}
-use mathlib.Core.List.{List, [], _∷_}
-use Prim.Native.Nat.{ℕ, zero, suc, _+_, _-_, _*_, _^_, _≤_, _<_, zero-le}
+use mathlib.Core.Path.{_≡_, refl, sym, _∙_}
+use mathlib.Core.Bool.{Bool, true, false}
+use mathlib.Core.List.{List}
+use Prim.Native.Nat.{ℕ, suc, _+_, _-_, _*_, _^_, _≤_, _<_}
 use native.Mathlib.Nat.{pow-succ', pow-le-pow-right}
 use native.Mathlib.Numerals.{add-one}
 use native.Mathlib.Omega.{arith}
 use lib.ListN.{length, drop, getD, drop-of-length-le}
 use lib.Seq.{drop-cons}
 use Rattle.lists.specs.Lists.{every}
-use Rattle.lists.specs.Questions.{inRange}
 use Rattle.lists.proofs.Questions.{below, above, in-range}
 use Rattle.lists.proofs.Loops.{Passing, passing, passing-more, halted, passed}
 use Rattle.lines.specs.Figures.{valueFrom, value, isDigit, leadingZero, isFigure}
-use Rattle.lines.specs.Reading.{ReadAs}
+use Rattle.lines.specs.Inner.{ReadAs}
 
 -- ---- a loop over digits, with v the number that the first i make
 

@@ -6,3 +6,5 @@ pub mod Commas
 pub mod Starts
 pub mod Digits
 pub mod Lines
+pub mod Accepted
+pub mod Promised

@@ -1,6 +1,6 @@
 -- Laws of reading: a loop that reads the fields of a line to the front of a list, and what the call answers. Assumes nothing.
 use mathlib.Core.Path.{_≡_, refl, sym, ap, _∙_}
-use mathlib.Core.Bool.{Bool, true, false, false≢true, cond, _&&_}
+use mathlib.Core.Bool.{Bool, true, false, false≢true, _&&_}
 use mathlib.Core.List.{List, [], _∷_, _++_, map, append-assoc, append-nil}
 use Prim.Native.Nat.{ℕ, zero, suc, _+_, _-_, _≤_, _<_, zero-le}
 use native.Mathlib.Nat.{zero-add}
@@ -15,8 +15,9 @@ use Rattle.lists.specs.Questions.{firstNo}
 use Rattle.lists.proofs.Questions.{both, refuses, accepts}
 use Rattle.lists.proofs.Sums.{length-table, getD-table}
 use Rattle.lines.specs.Figures.{value, isFigure}
-use Rattle.lines.specs.Fields.{nextComma, firstField, fields}
-use Rattle.lines.specs.Reading.{lineStart, startLength, lineFields, countFits, readNumber, refusal, ReadEnd, readCall, ReadAs, worth, ReadTo}
+use Rattle.lines.specs.Fields.{nextComma, fields}
+use Rattle.lines.specs.Reading.{lineStart, startLength, lineFields, countFits, readNumber, refusal, ReadEnd, readCall}
+use Rattle.lines.specs.Inner.{firstField, ReadAs, worth, ReadTo}
 use Rattle.lines.specs.declared.reading.Line.{Line}
 use Rattle.lines.proofs.Starts.{too-many}
 use Rattle.lines.proofs.Commas.{fields-more, fields-last, fields-some, field-long, next-high}

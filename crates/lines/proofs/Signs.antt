@@ -1,16 +1,17 @@
 -- Laws of signed figures: what is below zero, and how far. Assumes nothing.
 use mathlib.Core.Path.{_≡_, refl, sym, ap, _∙_}
 use mathlib.Core.Bool.{Bool, true, false, false≢true}
-use mathlib.Core.List.{List, [], _∷_, _++_}
-use Prim.Native.Nat.{ℕ, zero, suc, _+_, _-_, _≤_, _<_}
+use mathlib.Core.List.{List, [], _∷_}
+use Prim.Native.Nat.{ℕ, suc, _+_, _-_, _^_, _≤_, _<_}
 use native.Mathlib.Omega.{arith}
 use borrow.Author.Tests.{ltb-true}
 use lib.IntN.{ℤ, pos, negsuc, negℤ, natAbs, _+ℤ_, _-ℤ_}
 use lib.Signed.{ltZ}
-use lib.ListN.{length, set}
+use lib.ListN.{length, set, length-append}
 use Rattle.signed.proofs.View.{same-view, view-plus, view-minus, view-neg}
-use Rattle.lines.specs.Figures.{figure, minus, signedFigure, figureLength, signedFigureLength, written}
-use Rattle.lines.proofs.Written.{written-byte, written-next}
+use Rattle.lines.specs.Figures.{figure, minus, signedFigure, figureLength, signedFigureLength, Wrote}
+use Rattle.lines.proofs.Decimal.{length-le}
+use Rattle.lines.proofs.Written.{wrote-byte, wrote-next}
 
 pub below-one : (z : ℤ) → ltZ z (pos 0) ≡ true → 1 ≤ natAbs z
 below-one (pos n) t = absurd (omega (arith, ltb-true n 0 t))
@@ -60,12 +61,25 @@ pub tested : {m z : ℤ} {b : Bool} → m ≡ z → ltZ m (pos 0) ≡ b → ltZ 
 tested e t = sym (ap (λ (y : ℤ). ltZ y (pos 0)) e) ∙ t
 
 -- the minus, and the figure behind it
-module _ (z : ℤ) (n : ℕ) (e : n ≡ natAbs z) (text : List ℕ) (at : ℕ) (room : at + signedFigureLength z ≤ length text) where
-  pub written-below : ltZ z (pos 0) ≡ true → written (set text at 45) (at + 1) (figure n) ≡ written text at (signedFigure z)
+module _ (z : ℤ) (n : ℕ) (e : n ≡ natAbs z) (text : List ℕ) (at : ℕ) (room : at + signedFigureLength z ≤ length text) {new : List ℕ} {r : ℕ} where
+  pub wrote-below : ltZ z (pos 0) ≡ true → Wrote (figure n) (at + 1) (set text at 45) new r → Wrote (signedFigure z) at text new r
   unfolding figureLength
-  written-below t =
-      let h : at + 1 + length (figure (natAbs z)) ≤ length text = omega (arith, length-below z t) in
-      rw (e, written-byte text at 45 (omega arith), signed-below z t) (written-next text at (45 ∷ []) (figure (natAbs z)) h)
+  wrote-below t w =
+      let long = length-below z t in
+      let same : length (figure n) ≡ length (figure (natAbs z)) = ap (λ (n : ℕ). length (figure n)) e in
+      rw (signed-below z t, ← e) (wrote-next (wrote-byte text at 45 (omega arith)) w (omega arith))
 
-  pub written-above : ltZ z (pos 0) ≡ false → written text at (figure n) ≡ written text at (signedFigure z)
-  written-above t = rw (e, signed-above z t)
+  pub wrote-above : ltZ z (pos 0) ≡ false → Wrote (figure n) at text new r → Wrote (signedFigure z) at text new r
+  wrote-above t w = rw (signed-above z t, ← e) w
+
+-- ---- how long a signed figure is
+
+minus-le : (z : ℤ) → length (minus z) ≤ 1
+unfolding minus
+minus-le (pos n) = omega arith
+minus-le (negsuc n) = omega arith
+
+-- a minus and at most k digits
+pub signed-length-le : (k : ℕ) (z : ℤ) → natAbs z < 10 ^ suc k → signedFigureLength z ≤ suc (suc k)
+unfolding signedFigureLength signedFigure figureLength
+signed-length-le k z h = omega (arith, length-append (minus z) (figure (natAbs z)), minus-le z, length-le k (natAbs z) h)

@@ -1,10 +1,9 @@
 -- The fields of a line, parted by commas (byte 44), and the field call: document 01, 'Reading a line'. Assumes nothing.
-use mathlib.Core.Path.{_≡_}
-use Prim.Native.Nat.{ℕ, zero, suc, _+_, _≤_, _<_}
+use Prim.Native.Nat.{ℕ, suc, _+_}
 use mathlib.Core.Bool.{cond}
 use mathlib.Core.List.{List, [], _∷_}
 use lib.Dec.{eqb, leb, ltb}
-use lib.ListN.{length, take, drop, getD}
+use lib.ListN.{length, drop, getD}
 use Rattle.lists.specs.Questions.{_⁇_, firstNo, outcome}
 
 -- how many bytes stand before the first comma, or in all where there is none
@@ -16,10 +15,6 @@ toComma (b ∷ bs) = cond (eqb b 44) 0 (suc (toComma bs))
 unfoldable pub nextComma : List ℕ → ℕ → ℕ
 nextComma line from = from + toComma (drop from line)
 
--- the bytes before the first comma
-unfoldable pub firstField : List ℕ → List ℕ
-firstField l = take (toComma l) l
-
 -- a byte put before the first part
 unfoldable pub toFirst : ℕ → List (List ℕ) → List (List ℕ)
 toFirst b [] = []
@@ -29,11 +24,6 @@ toFirst b (f ∷ fs) = (b ∷ f) ∷ fs
 unfoldable pub fields : List ℕ → List (List ℕ)
 fields [] = [] ∷ []
 fields (b ∷ bs) = cond (eqb b 44) ([] ∷ fields bs) (toFirst b (fields bs))
-
--- the fields from an index on are those from a position on; where the position is past the line's end, there are none
-pub record Starts (line : List ℕ) (index position : ℕ) : Type 0 where
-  pub there : position ≤ length line → drop index (fields line) ≡ fields (drop position line)
-  pub absent : length line < position → drop index (fields line) ≡ []
 
 -- the questions that the field call puts: 26, "then 28 if the line has no such field (counted from 0 at the line's first byte)"
 unfoldable pub fieldNumber : List ℕ → ℕ → ℕ

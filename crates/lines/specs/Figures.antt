@@ -1,4 +1,5 @@
 -- Figures as text: document 01, 'The file and its statement'. Bytes are numbers; the digits `0` to `9` are 48 to 57. Assumes nothing.
+use mathlib.Core.Path.{_≡_}
 use Prim.Native.Nat.{ℕ, zero, suc, _+_, _*_, _-_, _/_, _%_}
 use mathlib.Core.Bool.{Bool, cond, not, _&&_}
 use mathlib.Core.List.{List, [], _∷_, _++_}
@@ -8,12 +9,12 @@ use lib.ListN.{length, getD}
 use Rattle.lists.specs.Lists.{between, every}
 use Rattle.lists.specs.Questions.{inRange}
 
--- the digits of x, most significant first, without leading zeros; x is below 10 to the k
+-- the digits of x, first digit first and no zero before it, in at most k places
 unfoldable pub digits : ℕ → ℕ → List ℕ
 digits zero x = []
 digits (suc k) x = cond (ltb x 10) ((48 + x) ∷ []) (digits k (x / 10) ++ ((48 + x % 10) ∷ []))
 
--- "Figures are written shortest": the shortest decimal of x
+-- "Figures are written shortest": the shortest decimal of x, which has no more than x + 1 digits
 unfoldable pub figure : ℕ → List ℕ
 figure x = digits (suc x) x
 
@@ -53,3 +54,8 @@ isFigure bs = inRange 1 19 (length bs) && (not (leadingZero bs) && every isDigit
 -- the text, with bytes in their place from a position on; what stands before and behind them stays
 unfoldable pub written : List ℕ → ℕ → List ℕ → List ℕ
 written text at bytes = between at (at + length bytes) text bytes
+
+-- bytes written from a position on: the position behind them is answered, and the text holds them
+pub record Wrote (bytes : List ℕ) (at : ℕ) (old new : List ℕ) (answer : ℕ) : Type 0 where
+  pub behind : answer ≡ at + length bytes
+  pub text : new ≡ written old at bytes

@@ -2,3 +2,5 @@
 pub mod Figures
 pub mod Fields
 pub mod Reading
+pub mod Laws
+pub mod Inner

@@ -1,6 +1,5 @@
 -- Reading a line, its end byte 10 removed: document 01, 'Reading a line'. Assumes nothing.
-use mathlib.Core.Path.{_≡_}
-use Prim.Native.Nat.{ℕ, _≤_, _<_}
+use Prim.Native.Nat.{ℕ}
 use mathlib.Core.Bool.{Bool, true, false, cond, _&&_}
 use mathlib.Core.List.{List, [], _∷_, _++_, map}
 use lib.Dec.{eqb, leb, ltb}
@@ -84,20 +83,3 @@ readCall line figures =
       figures = map value (lineFields line) ++ drop (length (lineFields line)) figures;
     })
     (λ n. record { answer = refusal n; figures = figures })
-
--- ---- inner forms
-
--- bytes as read: with the test passed they are good and stand for their value, else for 0
-pub record ReadAs (test : Bool) (bytes : List ℕ) (good : Bool) (v : ℕ) : Type 0 where
-  pub said : good ≡ test
-  pub stands : v ≡ cond test (value bytes) 0
-
-unfoldable pub worth : List ℕ → ℕ
-worth field = cond (isFigure field) (value field) 0
-
--- what is known once the fields fs were read to the front of a list: a count above the list's length says that there was no room
-pub record ReadTo (fs : List (List ℕ)) (old new : List ℕ) (count : ℕ) (good : Bool) : Type 0 where
-  pub many : length old < length fs → length old < count
-  pub counted : length fs ≤ length old → count ≡ length fs
-  pub tested : length fs ≤ length old → good ≡ every isFigure fs
-  pub written : length fs ≤ length old → new ≡ map worth fs ++ drop (length fs) old

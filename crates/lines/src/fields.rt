@@ -2,7 +2,8 @@
 ghost use mathlib.Core.Path.{_≡_};
 ghost use Prim.Native.Nat.{_+_, _≤_};
 ghost use lib.ListN.{length, drop};
-ghost use Rattle.lines.specs.Fields.{nextComma, firstField, Starts, fieldNumber, fieldBytes};
+ghost use Rattle.lines.specs.Fields.{nextComma, fieldNumber, fieldBytes};
+ghost use Rattle.lines.specs.Inner.{firstField, Starts};
 
 // The most bytes that a line may have.
 pub const LONGEST: usize = 8192;

@@ -7,7 +7,8 @@ ghost use lib.ListN.{length, take, drop};
 ghost use Rattle.lists.specs.Lists.{every};
 ghost use Rattle.lines.specs.Figures.{isDigit, leadingZero, isFigure};
 ghost use Rattle.lines.specs.Fields.{fields};
-ghost use Rattle.lines.specs.Reading.{startsWith, lineStart, startLength, countFits, ReadAs, ReadTo, refusal, ReadEnd, readCall};
+ghost use Rattle.lines.specs.Reading.{startsWith, lineStart, startLength, countFits, refusal, ReadEnd, readCall};
+ghost use Rattle.lines.specs.Inner.{ReadAs, ReadTo};
 use crate::fields::LONGEST;
 use crate::fields::field_at;
 
@@ -194,8 +195,9 @@ fn refused(number: u64) -> Line
     }
 }
 
-// Reads a line, its end byte 10 removed. The figures are read to a list of its own, so that a refusal leaves the lent one as it was.
-pub fn read_line(line: &[u8], figures: &mut [u64]) -> Line
+// Reads a line over a list of its own, to which the figures go first: so a refusal leaves the lent list as it was.
+pub fn read_over(line: &[u8], own: &mut [u64], figures: &mut [u64]) -> Line
+    requires { ⌜ length (now own) ≡ 513 ⌝ }
     ensures { λ r. ⌜ _≡_ {A = ReadEnd} (record { answer = r; figures = now (figures .exit) }) (readCall (now (line .entry)) (now (figures .entry))) ⌝ }
 {
     if LONGEST < line.len() {
@@ -205,8 +207,7 @@ pub fn read_line(line: &[u8], figures: &mut [u64]) -> Line
     if start == 0 {
         return refused(27);
     }
-    let mut own: [u64; 513] = [0; 513];
-    let read = read_fields(line, start_length(start), &mut own);
+    let read = read_fields(line, start_length(start), own);
     let count = read.count;
     if !count_fits(start, count) {
         return refused(28);
@@ -217,10 +218,18 @@ pub fn read_line(line: &[u8], figures: &mut [u64]) -> Line
     if figures.len() < count {
         return refused(30);
     }
-    copy_front(&own, count, figures);
+    copy_front(own, count, figures);
     Line {
         number: 0,
         start,
         fields: count as u64,
     }
+}
+
+// Reads a line, its end byte 10 removed: questions 26 to 30.
+pub fn read_line(line: &[u8], figures: &mut [u64]) -> Line
+    ensures { λ r. ⌜ _≡_ {A = ReadEnd} (record { answer = r; figures = now (figures .exit) }) (readCall (now (line .entry)) (now (figures .entry))) ⌝ }
+{
+    let mut own: [u64; 513] = [0; 513];
+    read_over(line, &mut own, figures)
 }

@@ -70,12 +70,14 @@ pub fn share(total: u64, weights: &[u64], parts: &mut [u64]) -> u64
     0
 }
 
-// A transfer table: four rows of four, giver by receiver.
+// A transfer table: four rows of four, giver by receiver. C reads it and the answer below as they stand.
+#[repr(C)]
 pub struct Table {
     pub rows: [[u64; 4]; 4],
 }
 
 // The answer of the transfer step: the number, and the table beside it.
+#[repr(C)]
 pub struct Transferred {
     pub number: u64,
     pub table: Table,

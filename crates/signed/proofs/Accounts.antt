@@ -1,12 +1,12 @@
 -- The accounts of a list of nets: the net column is the nets, the money column is net × tariff. Assumes nothing.
 use mathlib.Core.Path.{_≡_, refl, sym, ap, _∙_, subst}
-use Prim.Native.Nat.{ℕ, _+_, _*_, _<_}
+use Prim.Native.Nat.{ℕ, _+_, _*_}
 use native.Mathlib.Omega.{arith}
 use mathlib.Core.List.{List, [], _∷_, map}
 use lib.IntN.{ℤ, pos, _*ℤ_, zero-*ℤ, *ℤ-one, one}
 use lib.ListN.{length, getD, length-map, List·getD-map}
 use lib.Seq.{ext-getD}
-use Rattle.lists.specs.Columns.{column, byRow}
+use Rattle.lists.specs.Columns.{column}
 use Rattle.lists.proofs.Rows.{Even, column-at, column-byRow, length-byRow}
 use Rattle.signed.specs.Figures.{accountsOf}
 

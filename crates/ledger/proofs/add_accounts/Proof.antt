@@ -1,14 +1,14 @@
 -- `ledger::add_accounts` meets its contract: each row's two accounts are replaced by their sums. Assumes nothing.
-use mathlib.Core.Path.{_≡_, sym, ap, ap₂, _∙_, subst}
+use mathlib.Core.Path.{_≡_, sym, ap, _∙_}
 use Prim.Native.Nat.{ℕ, _+_, _-_, _*_}
 use native.Mathlib.Nat.{le-refl, add-zero}
 use native.Mathlib.Omega.{arith}
 use borrow.Author.Needs.{needs}
 use lib.IntN.{ℤ, pos, natAbs, _+ℤ_, _*ℤ_}
-use lib.ListN.{length, getD, set}
+use lib.ListN.{length, getD}
 use mir.Syntax.{w64}
 use mir.Val.{toZ, ofZ}
-use Rattle.lists.proofs.Loops.{updating, updating-kept, updating-more}
+use Rattle.lists.proofs.Loops.{updating, updating-kept}
 use Rattle.signed.specs.Figures.{accountsOf}
 use Rattle.signed.proofs.Accounts.{length-accounts, net-at, money-at}
 use Rattle.signed.proofs.Machine.{read-is, result-is}

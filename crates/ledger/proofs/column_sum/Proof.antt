@@ -19,7 +19,7 @@ add-total : tie.Need-add-total Inv-loop μ-loop
 add-total c =
     let a = c .before .before in
     let s = a .before in
-    omega (arith, gathering-le (s .pre .0) (a .loop .inv) (c .before .loop-test .taken), column-within (s .args .width) (s .args .start) (s .args .figures .now) (1488 * 10 ^ 9) (s .pre .1 .1 .1), mul-le-mul-right (1488 * 10 ^ 9) (s .pre .1 .1 .0))
+    omega (arith, gathering-le (s .pre .0) (a .loop .inv) (c .before .loop-test .taken), column-within (s .args .width) (s .args .start) (s .args .figures .now) (1488 * 10 ^ 9) (s .pre .3), mul-le-mul-right (1488 * 10 ^ 9) (s .pre .2))
 
 loop-again : tie.Need-loop-again Inv-loop μ-loop
 loop-again c = gathering-more (c .before .before .before .pre .0) (c .before .before .loop .inv) (c .before .loop-test .taken) refl

@@ -14,7 +14,7 @@ use Rattle.signed.specs.Figures.{isWithin}
 use Rattle.signed.proofs.Accounts.{atRate}
 use Rattle.signed.proofs.Machine.{read-is, result-is}
 use Rattle.ledger.specs.Ledger.{accountsWidth}
-use Rattle.ledger.proofs.Posting.{rated-small, after, length-after, after-at}
+use Rattle.ledger.proofs.Posting.{rated-small, length-after, after-at}
 use Rattle.ledger.proofs.column_within_after.Statement.{statement}
 use Rattle.ledger.proofs.column_within_after.Tie as tie
 
@@ -62,39 +62,39 @@ test c =
     ∙ ap (isWithin (s .bound))
     (result-is (c .before .plus .result) (c .before .plus .ok)
     (c .before .plus .ensures ∙ ap₂ _+ℤ_ (figure-is (c .before .before)) (more-is (c .before .before .before)))
-    ∙ sym (after-at (s .accounts .now) (s .nets .now) (s .rate) (s .start) (a .before .pre .1 .1) (a .before .pre .1 .0) (a .loop .i)))
+    ∙ sym (after-at (s .accounts .now) (s .nets .now) (s .rate) (s .start) (a .before .pre .2) (a .before .pre .1) (a .loop .i)))
 
 times-requires : tie.Need-times-requires Inv-loop μ-loop
 unfolding net
 times-requires c κs =
     let a = c .before .before in
-    omega (arith, ap natAbs (net-is c), a .before .pre .1 .1 .hour .at (a .loop .i))
+    omega (arith, ap natAbs (net-is c), a .before .pre .2 .hour .at (a .loop .i))
 
 plus-requires : tie.Need-plus-requires Inv-loop μ-loop
 unfolding net more figure
 plus-requires c κs =
     let a = c .before .before .before .before in
-    omega (arith, ap natAbs (figure-is c), ap natAbs (more-is (c .before)), rated-small (a .before .pre .1 .1) (a .loop .i), a .before .pre .1 .1 .ledger .at (accountsWidth * a .loop .i + a .before .args .start))
+    omega (arith, ap natAbs (figure-is c), ap natAbs (more-is (c .before)), rated-small (a .before .pre .2) (a .loop .i), a .before .pre .2 .ledger .at (accountsWidth * a .loop .i + a .before .args .start))
 
 returns : tie.Need-returns Inv-loop μ-loop
 returns c =
     let a = c .before .before .before .before .before .before .before in
     let s = a .before .args in
-    let long = length-after (s .accounts .now) (s .nets .now) (s .rate) (s .start) (a .before .pre .1 .1) (a .before .pre .1 .0) in
+    let long = length-after (s .accounts .now) (s .nets .now) (s .rate) (s .start) (a .before .pre .2) (a .before .pre .1) in
     halted (pos 0) (a .loop .inv) (omega arith) (refused _ _ (test (c .before)) (c .if1 .taken))
 
 loop-again : tie.Need-loop-again Inv-loop μ-loop
 loop-again c =
     let a = c .before .before .before .before .before .before .before in
     let s = a .before .args in
-    let long = length-after (s .accounts .now) (s .nets .now) (s .rate) (s .start) (a .before .pre .1 .1) (a .before .pre .1 .0) in
+    let long = length-after (s .accounts .now) (s .nets .now) (s .rate) (s .start) (a .before .pre .2) (a .before .pre .1) in
     passing-more (pos 0) (a .loop .inv) (omega arith) (granted _ _ (test (c .before)) (c .if1 .left))
 
 returns-2 : tie.Need-returns-2 Inv-loop μ-loop
 returns-2 c =
     let a = c .before in
     let s = a .before .args in
-    let long = length-after (s .accounts .now) (s .nets .now) (s .rate) (s .start) (a .before .pre .1 .1) (a .before .pre .1 .0) in
+    let long = length-after (s .accounts .now) (s .nets .now) (s .rate) (s .start) (a .before .pre .2) (a .before .pre .1) in
     passed (a .loop .inv) (omega arith)
 
 pub column-within-after-spec : {M : Type 1} → statement M

@@ -27,7 +27,7 @@ use denote.Plain.{uint-vals, uint-tells, uint-makes, uint-lawful}
 use denote.Builtin.{u8, u64}
 use denote.Ref.{RefT, NamedLft, now}
 use denote.Signature.{plain, namedLft}
-use denote.Slice.{sliceTy, sliceVal, ShrSlice, Room, slice-vals, shr-slice-tells, shr-slice-lawful, shr-slice-copy}
+use denote.Slice.{sliceTy, sliceVal, ShrSlice, slice-vals, shr-slice-tells, shr-slice-lawful, shr-slice-copy}
 use denote.Steps.{only, owned, peeks, facts, heard, nothing}
 use denote.Struct.Rest.{own-shut}
 use denote.Triple.Statement.{Contract, Triple}
@@ -39,7 +39,6 @@ use denote.Triple.Walked.{says, Stays, stay-none, stay-none-slice, walkOf, goes-
 use denote.Exit.{yes}
 use denote.Triple.Clauses.{ensured, lasts}
 use Rattle.lines.specs.Fields.{fieldNumber, fieldBytes}
-use Rattle.lines.specs.declared.fields.FieldPart.{FieldPart}
 use Rattle.lines.proofs.fields.FieldPart as T
 use Rattle.lines.proofs.fields.FieldPart.Laws as T′
 use Rattle.lines.proofs.fields.field_number as c

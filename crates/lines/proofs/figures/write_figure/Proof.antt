@@ -1,7 +1,7 @@
 -- `figures::write_figure` meets its contract. Assumes nothing.
 use native.Mathlib.Omega.{arith}
 use borrow.Author.Needs.{needs}
-use Rattle.lines.proofs.Decimal.{Writing, writing, writing-more, written-whole}
+use Rattle.lines.proofs.Decimal.{Writing, writing, writing-more, wrote}
 use Rattle.lines.proofs.figures.write_figure.Statement.{statement}
 use Rattle.lines.proofs.figures.write_figure.Tie as tie
 
@@ -26,4 +26,4 @@ write-figure-spec =
     (λ c. search needs)  -- loop-less
     (λ c. writing-more (c .before .before .loop .inv) (c .before .loop-test .taken) (omega arith) (c .digit .ensures))  -- loop-again
     (λ c. search needs)  -- same-length
-    (λ c. (search needs, written-whole (c .before .loop .inv) (c .loop-test .left))))  -- returns
+    (λ c. wrote (c .before .before .figure-length .ensures) (c .before .loop .inv) (c .loop-test .left)))  -- returns

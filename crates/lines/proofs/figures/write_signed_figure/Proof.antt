@@ -8,7 +8,7 @@ use lib.ListN.{length-set}
 use lib.Signed.{ltZ}
 use mir.Facts.{toZ-ofZ}
 use Rattle.lines.specs.Figures.{figureLength}
-use Rattle.lines.proofs.Signs.{tested, length-below, length-above, written-below, written-above}
+use Rattle.lines.proofs.Signs.{tested, length-below, length-above, wrote-below, wrote-above}
 use Rattle.lines.proofs.figures.write_signed_figure.Statement.{statement}
 use Rattle.lines.proofs.figures.write_signed_figure.Tie as tie
 
@@ -36,10 +36,8 @@ returns : tie.Need-returns
 returns c =
     let w = c .before .before in
     let t = w .before .before in
-    let s = t .before .before .before in (
-      omega (arith, ap figureLength (size (t .before)), length-below (s .args .z) (below t)),
-      w .write-figure .ensures .1 ∙ written-below (s .args .z) (t .before .magnitude .result) (size (t .before)) (s .args .text .now) (s .args .at) (s .pre) (below t),
-    )
+    let s = t .before .before .before in
+    wrote-below (s .args .z) (t .before .magnitude .result) (size (t .before)) (s .args .text .now) (s .args .at) (s .pre) (below t) (w .write-figure .ensures)
 
 write-figure-requires-2 : tie.Need-write-figure-requires-2
 write-figure-requires-2 c κs =
@@ -50,10 +48,8 @@ returns-2 : tie.Need-returns-2
 returns-2 c =
     let w = c .before .before in
     let t = w .before .before in
-    let s = t .before .before .before in (
-      omega (arith, ap figureLength (size (t .before)), length-above (s .args .z) (above t)),
-      w .write-figure2 .ensures .1 ∙ written-above (s .args .z) (t .before .magnitude .result) (size (t .before)) (s .args .text .now) (s .args .at) (s .pre) (above t),
-    )
+    let s = t .before .before .before in
+    wrote-above (s .args .z) (t .before .magnitude .result) (size (t .before)) (s .args .text .now) (s .args .at) (s .pre) (above t) (w .write-figure2 .ensures)
 
 pub write-signed-figure-spec : {M : Type 1} → statement M
 write-signed-figure-spec =

@@ -1,0 +1,121 @@
+-- What a caller learns of a line that was read: for those who go on with its figures. Assumes nothing.
+use mathlib.Core.Path.{_≡_, refl, sym, ap, _∙_}
+use mathlib.Core.Bool.{true, not, _&&_}
+use mathlib.Core.List.{List, [], _∷_, _++_, map}
+use Prim.Native.Nat.{ℕ, zero, suc, _+_, _-_, _*_, _^_, _≤_, _<_}
+use native.Mathlib.Nat.{pow-succ', pow-le-pow-right, add-zero}
+use native.Mathlib.Omega.{arith}
+use borrow.Author.Tests.{leb-true, ltb-true, eqb-true}
+use lib.ListN.{length, drop}
+use Rattle.lists.specs.Lists.{every}
+use Rattle.lists.specs.Questions.{inRange, outcome}
+use Rattle.lists.proofs.Questions.{asked, both, limits, accepted, outcome-part}
+use Rattle.lines.specs.Figures.{valueFrom, value, isDigit, leadingZero, isFigure}
+use Rattle.lines.specs.Reading.{lineStart, lineFields, countFits, readNumber, ReadEnd, readCall}
+use Rattle.lines.specs.declared.reading.Line.{Line}
+
+-- ---- the questions answered yes
+
+pub record Read (line : List ℕ) (places : ℕ) : Type 0 where
+  pub short : length line ≤ 8192
+  pub started : 0 < lineStart line
+  pub fits : countFits (lineStart line) (length (lineFields line)) ≡ true
+  pub figures : every isFigure (lineFields line) ≡ true
+  pub room : length (lineFields line) ≤ places
+
+pub read : (line : List ℕ) (places : ℕ) → readNumber line places ≡ 0 → Read line places
+unfolding readNumber
+read line places e =
+    let a = asked _ _ _ tt e in
+    let b = asked _ _ _ tt (a .1) in
+    let c = asked _ _ _ tt (b .1) in
+    let d = asked _ _ _ tt (c .1) in
+    let f = asked _ _ _ tt (d .1) in
+    record {
+      short = leb-true (length line) 8192 (a .0);
+      started = ltb-true 0 (lineStart line) (b .0);
+      fits = c .0;
+      figures = d .0;
+      room = leb-true (length (lineFields line)) places (f .0);
+    }
+
+-- ---- the parts of what the call leaves
+
+number-itself : (n : ℕ) → outcome n 0 (λ k. k) ≡ n
+unfolding outcome
+number-itself zero = refl
+number-itself (suc n) = refl
+
+refused-as : {A : Type 0} (n : ℕ) (y : A) (f : ℕ → A) → (n ≡ 0 → ⊥) → outcome n y f ≡ f n
+unfolding outcome
+refused-as zero y f h = absurd (h refl)
+refused-as (suc n) y f h = refl
+
+module _ (line old : List ℕ) {answer : Line} {new : List ℕ} (e : _≡_ {A = ReadEnd} (record { answer = answer; figures = new }) (readCall line old)) where
+  -- the number is that of the questions
+  pub read-number : answer .number ≡ readNumber line (length old)
+  unfolding readCall
+  read-number =
+      ap (λ (r : ReadEnd). r .answer .number) e ∙ outcome-part (λ (r : ReadEnd). r .answer .number) (readNumber line (length old)) _ _
+      ∙ number-itself (readNumber line (length old))
+
+  module _ (z : answer .number ≡ 0) where
+    none : readNumber line (length old) ≡ 0
+    none = sym read-number ∙ z
+
+    pub read-start : answer .start ≡ lineStart line
+    unfolding readCall
+    read-start = ap (λ (r : ReadEnd). r .answer .start) (e ∙ accepted _ _ _ none)
+
+    pub read-count : answer .fields ≡ length (lineFields line)
+    unfolding readCall
+    read-count = ap (λ (r : ReadEnd). r .answer .fields) (e ∙ accepted _ _ _ none)
+
+    pub read-figures : new ≡ map value (lineFields line) ++ drop (length (lineFields line)) old
+    unfolding readCall
+    read-figures = ap (λ (r : ReadEnd). r .figures) (e ∙ accepted _ _ _ none)
+
+    pub read-yes : Read line (length old)
+    read-yes = read line (length old) none
+
+  -- a refusal leaves the list as it was
+  pub read-kept : (answer .number ≡ 0 → ⊥) → new ≡ old
+  unfolding readCall
+  read-kept h = ap (λ (r : ReadEnd). r .figures) (e ∙ refused-as (readNumber line (length old)) _ _ (λ z. h (read-number ∙ z)))
+
+-- ---- how many fields each start has
+
+pub month-fields : (n : ℕ) → countFits 1 n ≡ true → n ≡ 3
+unfolding countFits
+month-fields n e = eqb-true n 3 e
+
+pub plant-fields : (n : ℕ) → countFits 2 n ≡ true → n ≡ 5
+unfolding countFits
+plant-fields n e = eqb-true n 5 e
+
+pub period-fields : (n : ℕ) → countFits 3 n ≡ true → n ≡ 2
+unfolding countFits
+period-fields n e = eqb-true n 2 e
+
+pub meter-fields : (n : ℕ) → countFits 4 n ≡ true → (2 ≤ n) × (n ≤ 513)
+unfolding countFits
+meter-fields n e = limits 2 513 n e
+
+-- ---- a figure has at most 19 digits
+
+digits-below : (bs : List ℕ) (v i : ℕ) → v < 10 ^ i → every isDigit bs ≡ true → valueFrom v bs < 10 ^ (i + length bs)
+unfolding valueFrom every isDigit
+digits-below [] v i h e = rw add-zero h
+digits-below (b ∷ bs) v i h e =
+    let p = both (isDigit b) (every isDigit bs) e in
+    let l = limits 48 57 b (p .0) in
+    let long : i + suc (length bs) ≡ suc i + length bs = omega arith in
+    rw long (digits-below bs (10 * v + (b - 48)) (suc i) (omega (arith, pow-succ' 10 i)) (p .1))
+
+pub figure-below : (f : List ℕ) → isFigure f ≡ true → value f < 10 ^ 19
+unfolding isFigure value
+figure-below f e =
+    let p = both (inRange 1 19 (length f)) (not (leadingZero f) && every isDigit f) e in
+    let l = limits 1 19 (length f) (p .0) in
+    let up : 10 ^ (0 + length f) ≤ 10 ^ 19 = pow-le-pow-right (omega arith) {j = 19} (omega arith) in
+    omega (arith, digits-below f 0 0 (omega arith) (both (not (leadingZero f)) (every isDigit f) (p .1) .1))

@@ -1,0 +1,2 @@
+-- What the contracts of wide cite.
+pub mod Head

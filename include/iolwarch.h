@@ -1,0 +1,114 @@
+/* Iolwarch: the reallocation ledger (MRE) of hydropower plants, in whole kWh.
+ *
+ * Link with target/staticlib/librecorder.a, which `rt staticlib recorder` writes (x86-64 Linux). The functions keep
+ * nothing between calls, allocate nothing, end on every input, and may be called from any thread.
+ *
+ * Every call answers a number: 0 when it did what it is for, and otherwise the number of the first question that was
+ * answered no (table below). A refusal changes nothing: every list is as it was, and every part of the answer but
+ * the number is zero.
+ *
+ * Lists. A list is a pointer and its length, counted in elements. The pointer is never NULL, also where the length is
+ * 0; it is aligned for its element. During a call nobody else writes to a list that the call reads, or touches a list
+ * that the call writes. So a list that a call writes overlaps none of the call's other lists. What figures a list
+ * holds is free: no value in it can do harm.
+ */
+#ifndef IOLWARCH_H
+#define IOLWARCH_H
+
+#include <stddef.h>
+#include <stdint.h>
+
+#ifdef __cplusplus
+extern "C" {
+#endif
+
+/* The numbers, from the questions of document 01. Each line says what must hold; where it does not, its number is
+ * answered. P is the number of plants, H the number of periods, TEO the tariff.
+ *
+ *    0  every question was answered yes
+ *
+ *  Opening a month
+ *    1  no month is open
+ *    2  P is 1 to 512
+ *    3  H is 1 to 744
+ *    4  TEO is 0 to 10,000 centavos per MWh
+ *    5  each row: submarket 1 to 4, and not below the row before
+ *    6  each row: plant number 1 to 999,999, and in the same submarket above the row before
+ *    7  each row: monthly guarantee 0 to 10^12 kWh
+ *    8  each row: loss and availability factor 0 to 1,000,000 millionths
+ *    9  every profile figure is 0 to 2 x 10^9 kWh
+ *   10  the profile's sum is above 0
+ *   11  the ledger lists have exactly 4P and 2P figures
+ *
+ *  Settling an hour (2 to 11 are put here too)
+ *   12  a month is open
+ *   13  as many rows and profile figures are lent as the month has
+ *   14  the period due is 1 to H (for a statement, H + 1 passes too)
+ *   15  P metered figures are lent
+ *   16  each metered figure is at most 2 x 10^9 kWh
+ *   17  their sum equals the profile's figure for the period due
+ *   18  the allotment list has exactly 4P figures
+ *   19  every ledger figure is inside its bound, before and after
+ *
+ *  Closing, balance, statement
+ *   20  the last period is settled, so that H + 1 is due
+ *   21  the month is not blank
+ *   22  at least 128P + 128 bytes are lent
+ *
+ *  Transfer step and sharing
+ *   23  all eight figures are at most 2 x 10^9, the needs no more than what is left in sum, no submarket has both
+ *   24  the lists are equally long, and the sum of the weights and the total are each below 2^62
+ *   25  the total is 0, or the sum of the weights is above 0
+ *
+ *  Reading a line and a file
+ *   26  the line has at most 8,192 bytes
+ *   27  it starts with "MRE,1," or "P," or "H," or "G,"
+ *   28  it has 3, 5, 2, or 2 to 513 fields after that start; for a field call: it has such a field
+ *   29  every field is 1 to 19 digits, with no leading zero but "0" itself
+ *   30  the figure list is long enough
+ *   31  the line is in turn, has its end byte 10, and the file neither ends early nor goes on after the last G line
+ */
+
+/* One figure for each of submarkets 1 to 4, in that order. */
+typedef struct {
+    uint64_t kwh[4];
+} iolwarch_by_submarket;
+
+/* A transfer table, giver by receiver: rows[g][r] is what submarket g + 1 gives to submarket r + 1. */
+typedef struct {
+    uint64_t rows[4][4];
+} iolwarch_table;
+
+/* The answer of the transfer step. */
+typedef struct {
+    uint64_t number;
+    iolwarch_table table;
+} iolwarch_transferred;
+
+/* Shares a total over weights: the i-th part is floor(total x Ci / W) - floor(total x C(i-1) / W), where Ci is the sum
+ * of the first i weights and W of all. The parts add up to the total; when the total is at most W, no part exceeds
+ * its weight. A total of 0 gives zeros.
+ *
+ * Takes    the total, the weights, and a list for the parts.
+ * Answers  0, 24 or 25.
+ * Leaves   with 0 each part in its place in the second list; otherwise that list as it was. The weights are only read.
+ */
+uint64_t iolwarch_share(uint64_t total,
+                        const uint64_t *weights, size_t weights_length,
+                        uint64_t *parts, size_t parts_length);
+
+/* The transfer step: needy submarkets are served in order 1 to 4, each one's need shared over what the four still
+ * have left, which then falls. Each receiver's column of the table adds up to its need, no giver's row passes what it
+ * had left, and no submarket gives to itself.
+ *
+ * Takes    what each submarket has left, and what each needs, both by value.
+ * Answers  0 and the table, or 23 and zeros.
+ * Leaves   nothing changed: it has no list.
+ */
+iolwarch_transferred iolwarch_transfer(iolwarch_by_submarket left, iolwarch_by_submarket need);
+
+#ifdef __cplusplus
+}
+#endif
+
+#endif

@@ -1,0 +1,29 @@
+//! The recorder, called through its C interface, compared with the second program.
+//!
+//!   compare            every part
+//!   compare PART ..    the named parts
+//!
+//! Each part prints how many cases it tried and of which kind. The last line is 'N passed, M failed'; the exit status
+//! is 0 only if nothing failed and something was tried.
+
+mod count;
+mod random;
+mod recorder;
+mod script;
+mod share;
+mod transfer;
+
+type Part = (&'static str, fn(&mut count::Count));
+
+const PARTS: [Part; 3] = [("share", share::run), ("transfer", transfer::run), ("scripts", script::run)];
+
+fn main() {
+    let asked: Vec<String> = std::env::args().skip(1).collect();
+    let mut count = count::Count::new();
+    for (name, run) in PARTS {
+        if asked.is_empty() || asked.iter().any(|a| a == name) {
+            count.part(name, run);
+        }
+    }
+    std::process::exit(if count.finish() { 0 } else { 1 });
+}

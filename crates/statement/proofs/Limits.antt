@@ -3,21 +3,20 @@ use mathlib.Core.Path.{_≡_, refl, sym, ap, subst, _∙_}
 use mathlib.Core.Bool.{true}
 use mathlib.Core.List.{List, [], _∷_, map}
 use Prim.Native.Nat.{ℕ, zero, suc, _+_, _-_, _*_, _^_, _≤_, _<_}
-use native.Mathlib.Nat.{mul-le-mul-right, suc-mul, add-zero}
+use native.Mathlib.Nat.{suc-mul, add-zero}
 use native.Mathlib.Omega.{arith}
 use lib.IntN.{ℤ, pos, negsuc, natAbs}
 use lib.ListN.{length, take, drop, getD, length-take}
 use lib.Seq.{getD-take, getD-drop}
 use Rattle.lists.specs.Lists.{sum, Within}
-use Rattle.lists.specs.Columns.{four, column}
-use Rattle.lists.proofs.Strides.{column-within}
+use Rattle.lists.specs.Columns.{four}
 use Rattle.lines.specs.Figures.{figure, minus, signedFigure, figureLength, signedFigureLength}
 use Rattle.lines.proofs.Decimal.{length-le, length-le-20, length-small}
 use Rattle.hour.specs.declared.Plant.{Plant}
 use Rattle.hour.specs.Table.{plantsOf}
 use Rattle.hour.proofs.Table.{length-plants}
 use Rattle.ledger.specs.Ledger.{Ledger, allottedIn, inBounds}
-use Rattle.ledger.proofs.Bounds.{Bounded, bounded}
+use Rattle.ledger.proofs.Bounds.{bounded, column-small}
 use Rattle.statement.specs.Statement.{statementText, roomFor}
 use Rattle.statement.specs.Lengths.{fieldsLength, leadingLength, plantLineLength, plantLinesLength, totalLineLength, statementLength}
 use Rattle.statement.specs.Writing.{Stateable}
@@ -26,22 +25,15 @@ use Rattle.statement.proofs.Text.{length-statement, text-columns}
 
 -- ---- sums
 
--- the sum of a column of at most 2,048 figures
-column-low : (j : ℕ) (xs : List ℕ) → Within xs (1488 * 10 ^ 9) → length xs ≤ 2048 → sum (column 4 j xs) ≤ 2048 * (1488 * 10 ^ 9)
-column-low j xs h k = omega (arith, column-within 4 j xs (1488 * 10 ^ 9) h, mul-le-mul-right (1488 * 10 ^ 9) k)
-
 module _ (l : Ledger) (e : inBounds l ≡ true) (k : length (l .allotted) ≤ 2048) where
   pub columns-low : Within (four (λ s. sum (allottedIn s l))) (2048 * (1488 * 10 ^ 9))
   columns-low = record { at = low }
     where
-      one : (j : ℕ) → sum (column 4 j (l .allotted)) ≤ 2048 * (1488 * 10 ^ 9)
-      one j = column-low j (l .allotted) (bounded l e .allotted) k
-
       low : (i : ℕ) → getD (four (λ s. sum (allottedIn s l))) i 0 ≤ 2048 * (1488 * 10 ^ 9)
-      low zero = one 0
-      low (suc zero) = one 1
-      low (suc (suc zero)) = one 2
-      low (suc (suc (suc zero))) = one 3
+      low zero = column-small l e k 1
+      low (suc zero) = column-small l e k 2
+      low (suc (suc zero)) = column-small l e k 3
+      low (suc (suc (suc zero))) = column-small l e k 4
       low (suc (suc (suc (suc i)))) = omega arith
 
   -- the sum of the four column sums

@@ -17,33 +17,29 @@ use Rattle.hour.specs.Table.{plantsOf}
 use Rattle.hour.proofs.Table.{length-plants, row-at}
 use Rattle.ledger.specs.Ledger.{Ledger, allottedIn}
 use Rattle.statement.specs.Statement.{line, plantLine, plantLines, totalLine, statementText}
-use Rattle.statement.specs.Writing.{field, fieldsText, leading, shown, rowLine}
+use Rattle.statement.specs.Writing.{fieldsText, leading, shown, rowLine}
 use Rattle.statement.specs.Lengths.{fieldsLength, leadingLength, plantLineLength, plantLinesLength, totalLineLength, statementLength}
 
 -- ---- lines, field by field
 
-module _ (g : List ℕ) (gs : List (List ℕ)) where
-  -- a field that figures or other fields follow
-  next : (f : List ℕ) (xs : List ℕ) → line (f ∷ (map figure xs ++ (g ∷ gs))) ≡ field f 44 ++ line (map figure xs ++ (g ∷ gs))
-  unfolding line field
-  next f [] = sym (append-assoc f (44 ∷ []) (line (g ∷ gs)))
-  next f (x ∷ xs) = sym (append-assoc f (44 ∷ []) (line (figure x ∷ (map figure xs ++ (g ∷ gs)))))
+-- the fields behind a line's first, each with a comma before it, and the line's end
+rest : List (List ℕ) → List ℕ
+rest [] = 10 ∷ []
+rest (g ∷ gs) = 44 ∷ (g ++ rest gs)
 
-  -- figures that other fields follow
-  figures-next : (xs : List ℕ) → line (map figure xs ++ (g ∷ gs)) ≡ fieldsText xs ++ line (g ∷ gs)
-  unfolding fieldsText
-  figures-next [] = refl
-  figures-next (x ∷ xs) =
-      next (figure x) xs ∙ ap (λ (l : List ℕ). field (figure x) 44 ++ l) (figures-next xs)
-      ∙ sym (append-assoc (field (figure x) 44) (fieldsText xs) (line (g ∷ gs)))
+line-rest : (f : List ℕ) (gs : List (List ℕ)) → line (f ∷ gs) ≡ f ++ rest gs
+unfolding line rest
+line-rest f [] = refl
+line-rest f (g ∷ gs) = ap (λ (l : List ℕ). f ++ (44 ∷ l)) (line-rest g gs)
 
-  -- the letter and the figures that other fields follow
-  leading-next : (letter x y : ℕ) (xs : List ℕ) → line ((letter ∷ []) ∷ figure x ∷ figure y ∷ (map figure xs ++ (g ∷ gs))) ≡ leading letter x y xs ++ line (g ∷ gs)
-  unfolding leading field
-  leading-next letter x y xs = next (letter ∷ []) (x ∷ y ∷ xs) ∙ ap (λ (l : List ℕ). letter ∷ 44 ∷ l) (figures-next (x ∷ y ∷ xs))
+figures-rest : (xs : List ℕ) (gs : List (List ℕ)) → rest (map figure xs ++ gs) ≡ fieldsText xs ++ rest gs
+unfolding rest fieldsText
+figures-rest [] gs = refl
+figures-rest (x ∷ xs) gs =
+    ap (λ (l : List ℕ). 44 ∷ (figure x ++ l)) (figures-rest xs gs) ∙ sym (append-assoc (44 ∷ figure x) (fieldsText xs) (rest gs))
 
 -- the fields of the figures from i on
-pub fields-more : (xs : List ℕ) (i : ℕ) → i < length xs → fieldsText (drop i xs) ≡ field (figure (getD xs i 0)) 44 ++ fieldsText (drop (i + 1) xs)
+pub fields-more : (xs : List ℕ) (i : ℕ) → i < length xs → fieldsText (drop i xs) ≡ (44 ∷ figure (getD xs i 0)) ++ fieldsText (drop (i + 1) xs)
 unfolding fieldsText
 fields-more xs i h = rest-more fieldsText xs i 0 h
 
@@ -61,16 +57,18 @@ fields-length-none xs i h = rest-none fieldsLength xs i h
 
 -- the parts of an A line, and of the T line
 pub plant-line-is : (p : Plant) (figures : List ℕ) (net money : ℤ)
-    → plantLine p figures net money ≡ leading 65 (p .submarket) (p .number) figures ++ (field (signedFigure net) 44 ++ field (signedFigure money) 10)
-unfolding plantLine line field
+    → plantLine p figures net money ≡ leading 65 (p .submarket) (p .number) figures ++ ((44 ∷ signedFigure net) ++ ((44 ∷ signedFigure money) ++ (10 ∷ [])))
+unfolding plantLine leading rest
 plant-line-is p figures net money =
-    leading-next (signedFigure net) (signedFigure money ∷ []) 65 (p .submarket) (p .number) figures
-    ∙ ap (λ (l : List ℕ). leading 65 (p .submarket) (p .number) figures ++ l) (next (signedFigure money) [] (signedFigure net) [])
+    line-rest (65 ∷ []) (figure (p .submarket) ∷ figure (p .number) ∷ (map figure figures ++ (signedFigure net ∷ signedFigure money ∷ [])))
+    ∙ ap (λ (l : List ℕ). 65 ∷ l) (figures-rest (p .submarket ∷ p .number ∷ figures) (signedFigure net ∷ signedFigure money ∷ []))
 
 pub total-line-is : (settled plants : ℕ) (columns : List ℕ)
-    → totalLine settled plants columns ≡ leading 84 settled plants columns ++ field (figure (sum columns)) 10
-unfolding totalLine line field
-total-line-is settled plants columns = leading-next (figure (sum columns)) [] 84 settled plants columns
+    → totalLine settled plants columns ≡ leading 84 settled plants columns ++ ((44 ∷ figure (sum columns)) ++ (10 ∷ []))
+unfolding totalLine leading rest
+total-line-is settled plants columns =
+    line-rest (84 ∷ []) (figure settled ∷ figure plants ∷ (map figure columns ++ (figure (sum columns) ∷ [])))
+    ∙ ap (λ (l : List ℕ). 84 ∷ l) (figures-rest (settled ∷ plants ∷ columns) (figure (sum columns) ∷ []))
 
 -- ---- the A lines, row by row
 
@@ -127,14 +125,10 @@ row-line ss ns al ac i e f =
 
 -- ---- lengths
 
-length-field : (f : List ℕ) (b : ℕ) → length (field f b) ≡ length f + 1
-unfolding field
-length-field f b = length-append f (b ∷ [])
-
 pub length-fields : (xs : List ℕ) → length (fieldsText xs) ≡ fieldsLength xs
 unfolding fieldsText fieldsLength figureLength
 length-fields [] = refl
-length-fields (x ∷ xs) = simp (length-append, length-field, length-fields xs)
+length-fields (x ∷ xs) = length-append (44 ∷ figure x) (fieldsText xs) ∙ omega (arith, length-fields xs)
 
 length-leading : (letter x y : ℕ) (xs : List ℕ) → length (leading letter x y xs) ≡ leadingLength x y xs
 unfolding leading leadingLength
@@ -142,11 +136,11 @@ length-leading letter x y xs = omega (arith, length-fields (x ∷ y ∷ xs))
 
 pub length-plant-line : (p : Plant) (figures : List ℕ) (net money : ℤ) → length (plantLine p figures net money) ≡ plantLineLength p figures net money
 unfolding plantLineLength signedFigureLength
-length-plant-line p figures net money = ap length (plant-line-is p figures net money) ∙ simp (length-append, length-field, length-leading) (omega arith)
+length-plant-line p figures net money = ap length (plant-line-is p figures net money) ∙ simp (length-append, length-leading) (omega arith)
 
 pub length-total-line : (settled plants : ℕ) (columns : List ℕ) → length (totalLine settled plants columns) ≡ totalLineLength settled plants columns
 unfolding totalLineLength figureLength
-length-total-line settled plants columns = ap length (total-line-is settled plants columns) ∙ simp (length-append, length-field, length-leading)
+length-total-line settled plants columns = ap length (total-line-is settled plants columns) ∙ simp (length-append, length-leading) (omega arith)
 
 pub length-plant-lines : (ps : List Plant) (allotted : List ℕ) (accounts : List ℤ) → length (plantLines ps allotted accounts) ≡ plantLinesLength ps allotted accounts
 unfolding plantLines plantLinesLength

@@ -9,19 +9,19 @@ use Rattle.lines.specs.Figures.{figureLength, signedFigureLength}
 use Rattle.hour.specs.declared.Plant.{Plant}
 use Rattle.ledger.specs.Ledger.{Ledger, allottedIn}
 
--- figures, each with one byte behind it
+-- figures, each with a comma before it
 unfoldable pub fieldsLength : List ℕ → ℕ
 fieldsLength [] = 0
 fieldsLength (x ∷ xs) = figureLength x + 1 + fieldsLength xs
 
--- how A and T lines begin
+-- how A and T lines begin: a letter, and figures
 unfoldable pub leadingLength : ℕ → ℕ → List ℕ → ℕ
-leadingLength x y figures = 2 + fieldsLength (x ∷ y ∷ figures)
+leadingLength x y figures = 1 + fieldsLength (x ∷ y ∷ figures)
 
--- an A line: its letter, submarket, number, ledger figures, net, money, each with one byte behind it
+-- an A line: net and money with a comma before each, and the line's end
 unfoldable pub plantLineLength : Plant → List ℕ → ℤ → ℤ → ℕ
 plantLineLength p figures net money =
-    leadingLength (p .submarket) (p .number) figures + (signedFigureLength net + 1) + (signedFigureLength money + 1)
+    leadingLength (p .submarket) (p .number) figures + (signedFigureLength net + 1) + (signedFigureLength money + 1) + 1
 
 -- the A lines, as `plantLines` goes down the rows
 unfoldable pub plantLinesLength : List Plant → List ℕ → List ℤ → ℕ
@@ -29,9 +29,9 @@ plantLinesLength [] allotted accounts = 0
 plantLinesLength (p ∷ ps) allotted accounts =
     plantLineLength p (take 4 allotted) (getD accounts 0 (pos 0)) (getD accounts 1 (pos 0)) + plantLinesLength ps (drop 4 allotted) (drop 2 accounts)
 
--- the T line: its letter, periods settled, P, column sums, their sum
+-- the T line: the sum with a comma before it, and the line's end
 unfoldable pub totalLineLength : ℕ → ℕ → List ℕ → ℕ
-totalLineLength settled plants columns = leadingLength settled plants columns + (figureLength (sum columns) + 1)
+totalLineLength settled plants columns = leadingLength settled plants columns + (figureLength (sum columns) + 1) + 1
 
 -- the whole
 unfoldable pub statementLength : ℕ → List Plant → Ledger → ℕ

@@ -5,23 +5,19 @@ use mathlib.Core.List.{List, [], _∷_, _++_}
 use Prim.Native.Nat.{ℕ, _+_, _*_, _≤_}
 use lib.IntN.{ℤ, pos}
 use lib.ListN.{length, take, drop, getD}
-use Rattle.lines.specs.Figures.{figure, written}
+use Rattle.lines.specs.Figures.{figure}
 use Rattle.hour.specs.declared.Plant.{Plant}
 use Rattle.ledger.specs.Ledger.{Ledger, inBounds}
 use Rattle.statement.specs.Statement.{plantLine}
 
--- a field, and the byte behind it: a comma, or the line's end
-unfoldable pub field : List ℕ → ℕ → List ℕ
-field bytes behind = bytes ++ (behind ∷ [])
-
--- figures, each with a comma behind it
+-- figures, each with a comma before it
 unfoldable pub fieldsText : List ℕ → List ℕ
 fieldsText [] = []
-fieldsText (x ∷ xs) = field (figure x) 44 ++ fieldsText xs
+fieldsText (x ∷ xs) = (44 ∷ figure x) ++ fieldsText xs
 
 -- how A and T lines begin: a letter, two figures, and a list of figures
 unfoldable pub leading : ℕ → ℕ → ℕ → List ℕ → List ℕ
-leading letter x y figures = letter ∷ 44 ∷ fieldsText (x ∷ y ∷ figures)
+leading letter x y figures = letter ∷ fieldsText (x ∷ y ∷ figures)
 
 -- a plant as its A line shows it: submarket and number
 abbrev pub shown : ℕ → ℕ → Plant
@@ -47,11 +43,6 @@ pub record Stateable (submarket number : List ℕ) (l : Ledger) : Type 0 where
 -- the text has room for the bytes from `at` on
 pub record Room (bytes : List ℕ) (at : ℕ) (text : List ℕ) : Type 0 where
   pub fits : at + length bytes ≤ length text
-
--- the bytes stand in the text from `at` on, the rest of it is as it was, and the answer is the place behind them
-pub record Wrote (bytes : List ℕ) (at : ℕ) (before : List ℕ) (end : ℕ) (after : List ℕ) : Type 0 where
-  pub place : end ≡ at + length bytes
-  pub text : after ≡ written before at bytes
 
 -- 'The statement fills the front of the lent bytes and answers its length; the rest stays'
 pub record Fills (statement : List ℕ) (before : List ℕ) (answer : ℕ) (after : List ℕ) : Type 0 where

@@ -12,21 +12,21 @@ use crate::writing::sum_of;
 use lines::figures::figure_length;
 use lines::figures::signed_figure_length;
 
-// A figure, and the byte behind it.
+// A comma and the figure.
 fn field_length(x: u64) -> usize
     ensures { λ r. ⌜ (r ≡ figureLength x + 1) × (r ≤ 21) ⌝ }
 {
     figure_length(x) + 1
 }
 
-// A signed figure, and the byte behind it.
+// A comma and the signed figure.
 fn signed_field_length(z: i64) -> usize
     ensures { λ r. ⌜ (r ≡ signedFigureLength z + 1) × (r ≤ 22) ⌝ }
 {
     signed_figure_length(z) + 1
 }
 
-// Figures, each with one byte behind it.
+// Figures, each with a comma before it.
 fn fields_length(figures: &[u64]) -> usize
     requires { ⌜ length (now figures) ≤ 2 ^ 16 ⌝ }
     ensures { λ r. ⌜ (r ≡ fieldsLength (now (figures .entry))) × (r ≤ 21 * length (now (figures .entry))) ⌝ }
@@ -43,9 +43,9 @@ fn fields_length(figures: &[u64]) -> usize
 // How A and T lines begin.
 fn leading_length(x: u64, y: u64, figures: &[u64]) -> usize
     requires { ⌜ length (now figures) ≤ 2 ^ 16 ⌝ }
-    ensures { λ r. ⌜ (r ≡ leadingLength x y (now (figures .entry))) × (r ≤ 44 + 21 * length (now (figures .entry))) ⌝ }
+    ensures { λ r. ⌜ (r ≡ leadingLength x y (now (figures .entry))) × (r ≤ 43 + 21 * length (now (figures .entry))) ⌝ }
 {
-    2 + field_length(x) + field_length(y) + fields_length(figures)
+    1 + field_length(x) + field_length(y) + fields_length(figures)
 }
 
 // An A line.
@@ -56,6 +56,7 @@ fn plant_line_length(submarket: u64, number: u64, figures: &[u64], net: i64, mon
     leading_length(submarket, number, figures)
         + signed_field_length(net)
         + signed_field_length(money)
+        + 1
 }
 
 // The A line of row i.
@@ -100,7 +101,7 @@ fn total_line_length(settled: u64, plants: u64, columns: &[u64]) -> usize
     requires { ⌜ (sum (now columns) < 2 ^ 64) × (length (now columns) ≤ 4) ⌝ }
     ensures { λ r. ⌜ (r ≡ totalLineLength settled plants (now (columns .entry))) × (r ≤ 172) ⌝ }
 {
-    leading_length(settled, plants, columns) + field_length(sum_of(columns))
+    leading_length(settled, plants, columns) + field_length(sum_of(columns)) + 1
 }
 
 // The statement's size, to the byte.

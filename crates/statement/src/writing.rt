@@ -1,56 +1,27 @@
 // The statement's lines, written from a position on. Every function answers the position behind what it wrote.
 ghost use mathlib.Core.Path.{_≡_};
-ghost use mathlib.Core.List.{[], _∷_};
-ghost use Prim.Native.Nat.{_*_, _≤_, _<_, _^_};
+ghost use mathlib.Core.List.{[]};
+ghost use Prim.Native.Nat.{_≤_, _<_, _^_};
 ghost use lib.ListN.{length};
 ghost use Rattle.lists.specs.Lists.{sum};
-ghost use Rattle.lines.specs.Figures.{figure, signedFigure};
-ghost use Rattle.statement.specs.Writing.{field, fieldsText, leading, shown, rowLine, Even, Stateable, Room, Wrote, Fills};
+ghost use Rattle.lines.specs.Figures.{Wrote};
+ghost use Rattle.statement.specs.Writing.{fieldsText, leading, shown, rowLine, Even, Stateable, Room, Fills};
 ghost use Rattle.hour.specs.Table.{plantsOf};
 ghost use Rattle.statement.specs.Statement.{plantLine, plantLines, totalLine, statementText};
 ghost use Rattle.statement.specs.Lengths.{statementLength};
-use lines::figures::write_figure;
-use lines::figures::write_signed_figure;
+use lines::figures::write_byte;
+use lines::figures::write_field;
+use lines::figures::write_signed_field;
 
-// The letter that a line begins with, and a comma.
-fn write_letter(letter: u8, text: &mut [u8], at: usize) -> usize
-    requires { ⌜ Room (letter ∷ 44 ∷ []) at (now text) ⌝ }
-    ensures { λ r. ⌜ Wrote (letter ∷ 44 ∷ []) at (now (text .entry)) r (now (text .exit)) ⌝ }
-{
-    text[at] = letter;
-    text[at + 1] = b',';
-    at + 2
-}
-
-// A figure, and the byte behind it: a comma, or the line's end.
-fn write_field(x: u64, behind: u8, text: &mut [u8], at: usize) -> usize
-    requires { ⌜ Room (field (figure x) behind) at (now text) ⌝ }
-    ensures { λ r. ⌜ Wrote (field (figure x) behind) at (now (text .entry)) r (now (text .exit)) ⌝ }
-{
-    let end = write_figure(x, text, at);
-    text[end] = behind;
-    end + 1
-}
-
-// A signed figure, and the byte behind it.
-fn write_signed_field(z: i64, behind: u8, text: &mut [u8], at: usize) -> usize
-    requires { ⌜ Room (field (signedFigure z) behind) at (now text) ⌝ }
-    ensures { λ r. ⌜ Wrote (field (signedFigure z) behind) at (now (text .entry)) r (now (text .exit)) ⌝ }
-{
-    let end = write_signed_figure(z, text, at);
-    text[end] = behind;
-    end + 1
-}
-
-// Figures, each with a comma behind it.
+// Figures, each with a comma before it.
 fn write_fields(figures: &[u64], text: &mut [u8], at: usize) -> usize
     requires { ⌜ Room (fieldsText (now figures)) at (now text) ⌝ }
-    ensures { λ r. ⌜ Wrote (fieldsText (now (figures .entry))) at (now (text .entry)) r (now (text .exit)) ⌝ }
+    ensures { λ r. ⌜ Wrote (fieldsText (now (figures .entry))) at (now (text .entry)) (now (text .exit)) r ⌝ }
 {
     let mut end = at;
     let mut i: usize = 0;
     while i < figures.len() {
-        end = write_field(figures[i], b',', text, end);
+        end = write_field(figures[i], text, end);
         i += 1;
     }
     end
@@ -59,11 +30,11 @@ fn write_fields(figures: &[u64], text: &mut [u8], at: usize) -> usize
 // How A and T lines begin: a letter, two figures, and a list of figures.
 fn write_leading(letter: u8, x: u64, y: u64, figures: &[u64], text: &mut [u8], at: usize) -> usize
     requires { ⌜ Room (leading letter x y (now figures)) at (now text) ⌝ }
-    ensures { λ r. ⌜ Wrote (leading letter x y (now (figures .entry))) at (now (text .entry)) r (now (text .exit)) ⌝ }
+    ensures { λ r. ⌜ Wrote (leading letter x y (now (figures .entry))) at (now (text .entry)) (now (text .exit)) r ⌝ }
 {
-    let end = write_letter(letter, text, at);
-    let end = write_field(x, b',', text, end);
-    let end = write_field(y, b',', text, end);
+    let end = write_byte(letter, text, at);
+    let end = write_field(x, text, end);
+    let end = write_field(y, text, end);
     write_fields(figures, text, end)
 }
 
@@ -78,11 +49,12 @@ fn write_plant_line(
     at: usize,
 ) -> usize
     requires { ⌜ Room (plantLine (shown submarket number) (now figures) net money) at (now text) ⌝ }
-    ensures { λ r. ⌜ Wrote (plantLine (shown submarket number) (now (figures .entry)) net money) at (now (text .entry)) r (now (text .exit)) ⌝ }
+    ensures { λ r. ⌜ Wrote (plantLine (shown submarket number) (now (figures .entry)) net money) at (now (text .entry)) (now (text .exit)) r ⌝ }
 {
     let end = write_leading(b'A', submarket, number, figures, text, at);
-    let end = write_signed_field(net, b',', text, end);
-    write_signed_field(money, b'\n', text, end)
+    let end = write_signed_field(net, text, end);
+    let end = write_signed_field(money, text, end);
+    write_byte(b'\n', text, end)
 }
 
 // The A line of row i.
@@ -97,7 +69,7 @@ fn write_row(
 ) -> usize
     requires { ⌜ (i < length (now submarket)) × Even (now submarket) (now number) (now allotted) (now accounts) ⌝ }
     requires { ⌜ Room (rowLine (now submarket) (now number) (now allotted) (now accounts) i) at (now text) ⌝ }
-    ensures { λ r. ⌜ Wrote (rowLine (now (submarket .entry)) (now (number .entry)) (now (allotted .entry)) (now (accounts .entry)) i) at (now (text .entry)) r (now (text .exit)) ⌝ }
+    ensures { λ r. ⌜ Wrote (rowLine (now (submarket .entry)) (now (number .entry)) (now (allotted .entry)) (now (accounts .entry)) i) at (now (text .entry)) (now (text .exit)) r ⌝ }
 {
     let start = 4 * i;
     let stop = start + 4;
@@ -125,7 +97,7 @@ fn write_plant_lines(
 ) -> usize
     requires { ⌜ Even (now submarket) (now number) (now allotted) (now accounts) ⌝ }
     requires { ⌜ Room (plantLines (plantsOf (now submarket) (now number) [] [] []) (now allotted) (now accounts)) at (now text) ⌝ }
-    ensures { λ r. ⌜ Wrote (plantLines (plantsOf (now (submarket .entry)) (now (number .entry)) [] [] []) (now (allotted .entry)) (now (accounts .entry))) at (now (text .entry)) r (now (text .exit)) ⌝ }
+    ensures { λ r. ⌜ Wrote (plantLines (plantsOf (now (submarket .entry)) (now (number .entry)) [] [] []) (now (allotted .entry)) (now (accounts .entry))) at (now (text .entry)) (now (text .exit)) r ⌝ }
 {
     let mut end = at;
     let mut i: usize = 0;
@@ -154,11 +126,12 @@ pub fn sum_of(columns: &[u64]) -> u64
 fn write_total_line(settled: u64, plants: u64, columns: &[u64], text: &mut [u8], at: usize) -> usize
     requires { ⌜ sum (now columns) < 2 ^ 64 ⌝ }
     requires { ⌜ Room (totalLine settled plants (now columns)) at (now text) ⌝ }
-    ensures { λ r. ⌜ Wrote (totalLine settled plants (now (columns .entry))) at (now (text .entry)) r (now (text .exit)) ⌝ }
+    ensures { λ r. ⌜ Wrote (totalLine settled plants (now (columns .entry))) at (now (text .entry)) (now (text .exit)) r ⌝ }
 {
     let total = sum_of(columns);
     let end = write_leading(b'T', settled, plants, columns, text, at);
-    write_field(total, b'\n', text, end)
+    let end = write_field(total, text, end);
+    write_byte(b'\n', text, end)
 }
 
 // The statement, to the front of the text. The answer is its length, and the rest of the text stays.

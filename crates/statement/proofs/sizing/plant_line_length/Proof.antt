@@ -18,6 +18,7 @@ plant-line-length-spec =
     (λ c. search needs)  -- add-result
     (λ c κs. search needs)  -- signed-field-length-requires-2
     (λ c. search needs)  -- add-result-2
+    (λ c. search needs)  -- add-result-3
     (λ c.
     let s = c .before .before .before .before in
     omega (arith, ap signedFigureLength (toZ-ofZ (s .fits .net)), ap signedFigureLength (toZ-ofZ (s .fits .money)))))  -- returns

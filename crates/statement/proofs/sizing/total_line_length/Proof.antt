@@ -16,4 +16,5 @@ total-line-length-spec =
     (λ c κs. search needs)  -- sum-of-requires
     (λ c κs. search needs)  -- field-length-requires
     (λ c. search needs)  -- add-result
+    (λ c. search needs)  -- add-result-2
     (λ c. omega (arith, ap figureLength (c .before .sum-of .ensures))))  -- returns

@@ -1,0 +1,42 @@
+-- The month as a C program keeps it. An enum cannot cross, so the stage is a number. Assumes nothing.
+use Prim.Native.Nat.{ℕ}
+use mathlib.Core.Bool.{cond}
+use lib.Dec.{eqb}
+use Rattle.lists.specs.Questions.{outcome}
+use Rattle.ledger.specs.Ledger.{Ledger}
+use Rattle.month.specs.declared.Month.{Month}
+use Rattle.month.specs.declared.Stage.{Stage}
+use Rattle.month.specs.declared.Stage.the-variants.{Blank, Open, Closed}
+use Rattle.month.specs.Calls.{balanceCall, closeCall}
+use Rattle.recorder.specs.declared.months.KeptMonth.{KeptMonth}
+use Rattle.recorder.specs.declared.months.KeptEnd.{KeptEnd}
+use Rattle.recorder.specs.declared.months.KeptBalance.{KeptBalance}
+
+-- every number is read as a stage: 1 is open, 2 closed, and any other blank
+unfoldable pub stageOf : ℕ → Stage
+stageOf n = cond (eqb n 1) Open (cond (eqb n 2) Closed Blank)
+
+unfoldable pub stageNumber : Stage → ℕ
+stageNumber Blank = 0
+stageNumber Open = 1
+stageNumber Closed = 2
+
+unfoldable pub monthOf : KeptMonth → Month
+monthOf k = record { stage = stageOf (k .stage); plants = k .plants; periods = k .periods; tariff = k .tariff; due = k .due }
+
+unfoldable pub keptOf : Month → KeptMonth
+keptOf m = record { stage = stageNumber (m .stage); plants = m .plants; periods = m .periods; tariff = m .tariff; due = m .due }
+
+-- accepted, the month that the call hands back; refused, the caller's own, figure for figure
+unfoldable pub handedBack : ℕ → KeptMonth → Month → KeptMonth
+handedBack number k m = outcome number (keptOf m) (λ _. k)
+
+-- close; the ledger has no part in it
+unfoldable pub closeKept : KeptMonth → KeptEnd
+closeKept k = let r = closeCall (monthOf k) in record { number = r .number; month = handedBack (r .number) k (r .month) }
+
+-- balance, which changes no month
+unfoldable pub balanceKept : KeptMonth → Ledger → KeptBalance
+balanceKept k l =
+    let r = balanceCall (monthOf k) l in
+    record { number = r .number; month = k; columns = r .columns; net = r .net; money = r .money }

@@ -4,4 +4,6 @@ pub mod Accepted
 pub mod Demand
 pub mod Asked
 pub mod Rows
+pub mod Ends
 pub mod Workable
+pub mod Many

@@ -5,9 +5,13 @@ use crate::Stage;
 use crate::questions::is_open;
 use crate::questions::sizes_number;
 use crate::questions::tables_number;
+use hour::Plant;
 ghost use mathlib.Core.Path.{_≡_};
 ghost use lib.ListN.{length};
+ghost use mathlib.Core.List.{List};
+ghost use Rattle.hour.specs.declared.Plant.{Plant};
 ghost use Rattle.hour.specs.Table.{plantsOf, Equal};
+ghost use Rattle.records.specs.Records.{Held};
 ghost use Rattle.month.specs.Questions.{openNumber};
 ghost use Rattle.month.specs.Calls.{OpenEnd, openCall};
 
@@ -96,5 +100,65 @@ impl Month {
             number: 0,
             month: self,
         }
+    }
+
+    // Open on the columns of n records. With more than 512 nothing of them is asked or read.
+    pub fn open_table(
+        self,
+        n: usize,
+        c: [u64; 2560],
+        profile: &[u64],
+        tariff: u64,
+        allotted: &mut [u64],
+        accounts: &mut [i64],
+    ) -> Opened
+        ensures { λ r. ⌜ ((plants : List Plant) → Held plants n c → _≡_ {A = OpenEnd} (record { answer = r; ledger = record { allotted = now (allotted .exit); accounts = now (accounts .exit) } }) (openCall self plants (now (profile .entry)) tariff (record { allotted = now (allotted .entry); accounts = now (accounts .entry) }))) ⌝ }
+    {
+        if 512 < n {
+            let stage = self.stage;
+            if is_open(stage) {
+                return Opened {
+                    number: 1,
+                    month: self,
+                };
+            }
+            return Opened {
+                number: 2,
+                month: self,
+            };
+        }
+        let all = &c[..];
+        let submarket = records::column(all, 0, n);
+        let number = records::column(all, 1, n);
+        let guarantee = records::column(all, 2, n);
+        let loss = records::column(all, 3, n);
+        let availability = records::column(all, 4, n);
+        self.open_columns(
+            submarket,
+            number,
+            guarantee,
+            loss,
+            availability,
+            profile,
+            tariff,
+            allotted,
+            accounts,
+        )
+    }
+
+    // Open. The plant table is one lent list of records.
+    pub fn open(
+        mut self,
+        plants: &[Plant],
+        profile: &[u64],
+        tariff: u64,
+        allotted: &mut [u64],
+        accounts: &mut [i64],
+    ) -> Opened
+        ensures { λ r. ⌜ _≡_ {A = OpenEnd} (record { answer = r; ledger = record { allotted = now (allotted .exit); accounts = now (accounts .exit) } }) (openCall self (now (plants .entry)) (now (profile .entry)) tariff (record { allotted = now (allotted .entry); accounts = now (accounts .entry) })) ⌝ }
+    {
+        let n = plants.len();
+        let c = records::columns(plants);
+        self.open_table(n, c, profile, tariff, allotted, accounts)
     }
 }

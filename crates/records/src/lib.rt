@@ -1,0 +1,57 @@
+// The plant table as one lent list of plant records (document 01, 'Plants, profile, ledger'), copied to five columns of 512 places.
+use hour::Plant;
+ghost use mathlib.Core.Path.{_≡_};
+ghost use Prim.Native.Nat.{_<_, _≤_, min};
+ghost use lib.ListN.{length, take};
+ghost use Rattle.records.specs.Records.{columnOf, Held, putRow, putRows};
+
+// Writes a record to place i of the five columns.
+pub fn put_row(columns: &mut [u64], i: usize, plant: Plant)
+    requires { ⌜ (length (now columns) ≡ 2560) × (i < 512) ⌝ }
+    ensures { λ _. ⌜ now (columns .exit) ≡ putRow (now (columns .entry)) i plant ⌝ }
+{
+    columns[i] = plant.submarket;
+    columns[512 + i] = plant.number;
+    columns[1024 + i] = plant.guarantee;
+    columns[1536 + i] = plant.loss;
+    columns[2048 + i] = plant.availability;
+}
+
+// Writes the first n records to the five columns.
+pub fn copy_rows(plants: &[Plant], n: usize, columns: &mut [u64])
+    requires { ⌜ (length (now columns) ≡ 2560) × (n ≤ 512) × (n ≤ length (now plants)) ⌝ }
+    ensures { λ _. ⌜ now (columns .exit) ≡ putRows (now (columns .entry)) 0 (take n (now (plants .entry))) ⌝ }
+{
+    let mut i: usize = 0;
+    while i < n {
+        put_row(columns, i, plants[i]);
+        i += 1;
+    }
+}
+
+// As many records as a column has places for.
+pub fn capped(n: usize) -> usize
+    ensures { λ r. ⌜ r ≡ min n 512 ⌝ }
+{
+    if n < 512 { n } else { 512 }
+}
+
+// The columns of the first 512 records; places past the last record hold 0.
+pub fn columns(plants: &[Plant]) -> [u64; 2560]
+    ensures { λ r. ⌜ Held (now (plants .entry)) (length (now (plants .entry))) r ⌝ }
+{
+    let n = capped(plants.len());
+    let mut c = [0u64; 2560];
+    copy_rows(plants, n, &mut c);
+    c
+}
+
+// The first n figures of column k, counted from 0.
+pub fn column(columns: &[u64], k: usize, n: usize) -> &[u64]
+    requires { ⌜ (length (now columns) ≡ 2560) × (k < 5) × (n ≤ 512) ⌝ }
+    ensures { λ r. ⌜ (now r ≡ columnOf k n (now (columns .entry))) × (length (now r) ≡ n) ⌝ }
+{
+    let first = 512 * k;
+    let end = first + n;
+    &columns[first..end]
+}

@@ -48,7 +48,7 @@ pub struct End {
 /// The answer of settle.
 #[repr(C)]
 #[derive(Clone, Copy, PartialEq, Eq, Debug)]
-pub struct Settled {
+pub struct Hour {
     pub number: u64,
     pub month: Month,
     pub secondary: u64,
@@ -60,7 +60,7 @@ pub struct Settled {
 /// The answer of balance.
 #[repr(C)]
 #[derive(Clone, Copy, PartialEq, Eq, Debug)]
-pub struct Balance {
+pub struct Sums {
     pub number: u64,
     pub month: Month,
     pub columns: [u64; 4],
@@ -129,14 +129,14 @@ extern "C" {
         allotted_length: usize,
         accounts: *mut i64,
         accounts_length: usize,
-    ) -> Settled;
+    ) -> Hour;
     fn iolwarch_balance(
         month: Month,
         allotted: *const u64,
         allotted_length: usize,
         accounts: *const i64,
         accounts_length: usize,
-    ) -> Balance;
+    ) -> Sums;
     fn iolwarch_close(month: Month) -> End;
     fn iolwarch_read_line(line: *const u8, line_length: usize, figures: *mut u64, figures_length: usize) -> Line;
     fn iolwarch_field(line: *const u8, line_length: usize, index: u64) -> FieldPlace;
@@ -188,7 +188,7 @@ pub fn settle(
     allotment: &mut [u64],
     allotted: &mut [u64],
     accounts: &mut [i64],
-) -> Settled {
+) -> Hour {
     unsafe {
         iolwarch_settle(
             month,
@@ -209,7 +209,7 @@ pub fn settle(
 }
 
 /// Sums the ledger's columns.
-pub fn balance(month: Month, allotted: &[u64], accounts: &[i64]) -> Balance {
+pub fn balance(month: Month, allotted: &[u64], accounts: &[i64]) -> Sums {
     unsafe { iolwarch_balance(month, allotted.as_ptr(), allotted.len(), accounts.as_ptr(), accounts.len()) }
 }
 

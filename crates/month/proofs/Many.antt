@@ -1,5 +1,5 @@
 -- More rows lent than a month may have: the number that a call answers, whatever the rows are. Assumes nothing.
-use mathlib.Core.Path.{_≡_, refl}
+use mathlib.Core.Path.{_≡_, refl, ap, _∙_}
 use mathlib.Core.Bool.{true, false}
 use mathlib.Core.List.{List}
 use Prim.Native.Nat.{ℕ, _<_}
@@ -9,8 +9,12 @@ use Rattle.lists.proofs.Questions.{no, yes, part-no, not-no, not-yes, above, re
 use Rattle.hour.specs.declared.Plant.{Plant}
 use Rattle.ledger.specs.Ledger.{Ledger}
 use Rattle.month.specs.declared.Month.{Month}
-use Rattle.month.specs.Questions.{isOpen, sizesNumber, openNumber}
+use Rattle.month.specs.declared.Settled.{Settled}
+use Rattle.month.specs.Questions.{isOpen, sizesNumber, openNumber, ownNumber}
 use Rattle.month.specs.Calls.{OpenEnd, openCall}
+use Rattle.month.specs.Steps.{inputsNumber}
+use Rattle.month.proofs.Asked.{own}
+use Rattle.month.proofs.Ends.{Ends, unsettled, refused-inputs}
 
 module _ (m : Month) (plants : List Plant) (profile : List ℕ) (t : ℕ) (l : Ledger) where
   abbrev refused : ℕ → OpenEnd
@@ -27,3 +31,11 @@ module _ (m : Month) (plants : List Plant) (profile : List ℕ) (t : ℕ) (l : L
       (yes _ _ _ _ (not-yes _ e) (part-no _ _ 2 (no _ _ _ (above 1 512 (length plants) h)) (λ z. omega arith)))
       (λ z. omega arith)
       refl
+
+module _ (m : Month) (plants : List Plant) (profile metered lent : List ℕ) (l : Ledger) where
+  pub settle-many : (k n : ℕ) → k ≡ ownNumber m n (length profile) → n ≡ length plants → 512 < n → (r : Settled) → r ≡ unsettled m plants profile metered lent l k
+      → Ends m plants profile metered lent l r lent l
+  unfolding inputsNumber
+  settle-many k n e count h r p =
+      let some : k ≡ 0 → ⊥ = λ z. (let o = own m n (length profile) k e z in let s = o .sizes .plants in omega arith) in
+      refused-inputs m plants profile metered lent l k (part-no _ _ k (e ∙ ap (λ (x : ℕ). ownNumber m x (length profile)) count) some) some r p

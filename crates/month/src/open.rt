@@ -103,7 +103,7 @@ impl Month {
     }
 
     // Open on the columns of n records. With more than 512 nothing of them is asked or read.
-    pub fn open_table(
+    fn open_table(
         self,
         n: usize,
         c: [u64; 2560],

@@ -6,12 +6,16 @@ use crate::questions::is_open;
 use crate::questions::sizes_number;
 use crate::questions::tables_number;
 use crate::questions::total;
+use hour::Plant;
 use hour::Worked;
 ghost use mathlib.Core.Path.{_≡_};
 ghost use mathlib.Core.Bool.{true};
+ghost use mathlib.Core.List.{List};
 ghost use Prim.Native.Nat.{_+_, _≤_};
 ghost use lib.ListN.{length};
+ghost use Rattle.hour.specs.declared.Plant.{Plant};
 ghost use Rattle.hour.specs.Table.{plantsOf, Equal};
+ghost use Rattle.records.specs.Records.{Held};
 ghost use Rattle.sharing.specs.Calls.{noTable};
 ghost use Rattle.ledger.specs.Ledger.{inBounds, added};
 ghost use Rattle.ledger.specs.Posting.{Postable, hourFigures};
@@ -251,5 +255,59 @@ impl Month {
             allotted,
             accounts,
         )
+    }
+
+    // Settle on the columns of n records. With more than 512 nothing of them is asked or read but their number.
+    fn settle_table(
+        self,
+        n: usize,
+        c: [u64; 2560],
+        profile: &[u64],
+        metered: &[u64],
+        allotment: &mut [u64],
+        allotted: &mut [u64],
+        accounts: &mut [i64],
+    ) -> Settled
+        ensures { λ r. ⌜ ((plants : List Plant) → Held plants n c → _≡_ {A = SettleEnd} (record { answer = r; allotment = now (allotment .exit); ledger = record { allotted = now (allotted .exit); accounts = now (accounts .exit) } }) (settleCall self plants (now (profile .entry)) (now (metered .entry)) (now (allotment .entry)) (record { allotted = now (allotted .entry); accounts = now (accounts .entry) }))) ⌝ }
+    {
+        if 512 < n {
+            let no = own_number(self, n as u64, profile.len() as u64);
+            return self.unsettled(no);
+        }
+        let all = &c[..];
+        let submarket = records::column(all, 0, n);
+        let number = records::column(all, 1, n);
+        let guarantee = records::column(all, 2, n);
+        let loss = records::column(all, 3, n);
+        let availability = records::column(all, 4, n);
+        self.settle_columns(
+            submarket,
+            number,
+            guarantee,
+            loss,
+            availability,
+            profile,
+            metered,
+            allotment,
+            allotted,
+            accounts,
+        )
+    }
+
+    // Settle. The plant table is one lent list of records.
+    pub fn settle(
+        mut self,
+        plants: &[Plant],
+        profile: &[u64],
+        metered: &[u64],
+        allotment: &mut [u64],
+        allotted: &mut [u64],
+        accounts: &mut [i64],
+    ) -> Settled
+        ensures { λ r. ⌜ _≡_ {A = SettleEnd} (record { answer = r; allotment = now (allotment .exit); ledger = record { allotted = now (allotted .exit); accounts = now (accounts .exit) } }) (settleCall self (now (plants .entry)) (now (profile .entry)) (now (metered .entry)) (now (allotment .entry)) (record { allotted = now (allotted .entry); accounts = now (accounts .entry) })) ⌝ }
+    {
+        let n = plants.len();
+        let c = records::columns(plants);
+        self.settle_table(n, c, profile, metered, allotment, allotted, accounts)
     }
 }

@@ -103,7 +103,7 @@ impl Month {
     }
 
     // Open on the columns of n records. With more than 512 nothing of them is asked or read.
-    fn open_table(
+    pub fn open_table(
         self,
         n: usize,
         c: [u64; 2560],
@@ -146,7 +146,7 @@ impl Month {
         )
     }
 
-    // Open. The plant table is one lent list of records.
+    // Open sets the ledger to zeros and period 1 due. The plant table is one lent list of records.
     pub fn open(
         mut self,
         plants: &[Plant],

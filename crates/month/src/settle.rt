@@ -258,7 +258,7 @@ impl Month {
     }
 
     // Settle on the columns of n records. With more than 512 nothing of them is asked or read but their number.
-    fn settle_table(
+    pub fn settle_table(
         self,
         n: usize,
         c: [u64; 2560],
@@ -294,7 +294,7 @@ impl Month {
         )
     }
 
-    // Settle. The plant table is one lent list of records.
+    // Settle fills the allotment list, adds to the ledger and moves the period on. The plant table is one lent list of records.
     pub fn settle(
         mut self,
         plants: &[Plant],

@@ -4,6 +4,9 @@ use sharing::Transferred;
 ghost use mathlib.Core.Path.{_≡_};
 ghost use Rattle.sharing.specs.Calls.{Shared, sharingCall, transferCall};
 
+pub mod months;
+pub mod reading;
+
 // sharing::share.
 #[no_mangle]
 pub extern "C" fn iolwarch_share(total: u64, weights: &[u64], parts: &mut [u64]) -> u64

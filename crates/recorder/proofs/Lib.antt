@@ -1,0 +1,3 @@
+-- Laws of the forms that cross to C.
+pub mod Kept
+pub mod Places

@@ -1,0 +1,4 @@
+-- What crosses to C in another form than inside: the month, and a part of a line.
+pub mod Months
+pub mod Parts
+pub mod Laws

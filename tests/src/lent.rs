@@ -1,0 +1,26 @@
+//! A list that is lent to a call lies between two known figures, which must stay: a write outside the list is seen.
+
+pub struct Lent<T> {
+    all: Vec<T>,
+    around: T,
+}
+
+impl<T: Copy + PartialEq> Lent<T> {
+    pub fn new(list: &[T], around: T) -> Lent<T> {
+        let mut all = vec![around];
+        all.extend_from_slice(list);
+        all.push(around);
+        Lent { all, around }
+    }
+
+    pub fn list(&mut self) -> &mut [T] {
+        let end = self.all.len() - 1;
+        &mut self.all[1..end]
+    }
+
+    /// The list as it is now, and whether what stands around it stayed.
+    pub fn back(mut self) -> (Vec<T>, bool) {
+        let kept = self.all.first() == Some(&self.around) && self.all.last() == Some(&self.around);
+        (self.list().to_vec(), kept)
+    }
+}

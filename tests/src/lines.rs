@@ -1,0 +1,310 @@
+//! Reading a line and the field call (01, 'Reading a line'; 26 to 30) against the second program: every short line,
+//! generated lines, each limit with its neighbours, and every line of generated month files.
+
+use crate::count::Count;
+use crate::lent::Lent;
+use crate::program;
+use crate::random::Random;
+use crate::recorder;
+use second::Stage;
+
+const GENERATED: u64 = 100_000;
+const SEED: u64 = 26_30;
+const LONGEST: usize = 8_192;
+const AROUND: u64 = 0xA5A5_A5A5_A5A5_A5A5;
+
+/// Files of each kind whose lines are read.
+const FILES: u64 = 40;
+
+pub fn run(count: &mut Count) {
+    small(count);
+    generated(count);
+    limits(count);
+    files(count);
+    for number in [0, 26, 27, 28, 29, 30] {
+        count.reached(&format!("read answered {}", number), 300);
+    }
+    for number in [0, 26, 28] {
+        count.reached(&format!("field answered {}", number), 300);
+    }
+}
+
+/// One reading of ours and one of the second program, with `before` lent.
+fn read(count: &mut Count, line: &[u8], before: &[u64]) -> u64 {
+    let mut theirs = before.to_vec();
+    let (number, start, fields) = second::read_line(Stage(0), line, &mut theirs);
+    let wanted = recorder::Line { number: number as u64, start: start.map_or(0, |s| s.code()), fields };
+
+    let mut lent = Lent::new(before, AROUND);
+    let answer = recorder::read_line(line, lent.list());
+    let (ours, kept) = lent.back();
+
+    // 01: "writes the figures to the front of the lent list; the rest of it stays", and nothing where it refuses.
+    let written = answer.fields as usize;
+    let lawful = written <= before.len() && ours[written..] == before[written..];
+    count.case(answer == wanted && ours == theirs && kept && lawful, || {
+        format!("{}, {} places: {:?}, wanted {:?}", shown(line), before.len(), answer, wanted)
+    });
+    count.tried(format!("read answered {}", answer.number));
+    answer.number
+}
+
+/// One field of ours and one of the second program: the number, and the very place in the line.
+fn field(count: &mut Count, line: &[u8], index: u64) -> u64 {
+    let (number, part) = second::field_call(line, index);
+    let start = if number == 0 { part.as_ptr() as u64 - line.as_ptr() as u64 } else { 0 };
+    let wanted = recorder::FieldPlace { number: number as u64, start, length: part.len() as u64 };
+    let answer = recorder::field(line, index);
+    count.case(answer == wanted, || format!("{}, field {}: {:?}, wanted {:?}", shown(line), index, answer, wanted));
+    count.tried(format!("field answered {}", answer.number));
+    answer.number
+}
+
+fn shown(line: &[u8]) -> String {
+    let text = String::from_utf8_lossy(line);
+    if line.len() <= 200 {
+        format!("{:?}", text)
+    } else {
+        format!("{:?}.. of {} bytes", text.chars().take(60).collect::<String>(), line.len())
+    }
+}
+
+fn figures(places: usize) -> Vec<u64> {
+    (0..places as u64).map(|i| 1_000_000 + i).collect()
+}
+
+/// Every line of up to five bytes of a short alphabet, by itself and after each start.
+fn small(count: &mut Count) {
+    for (start, alphabet, most) in
+        [("", "GHP,01:", 5), ("MRE,1,", ",019:", 5), ("P,1,2,", ",01/9", 5), ("G,", ",01 -", 4)]
+    {
+        let letters = alphabet.as_bytes();
+        for length in 0..=most {
+            for code in 0..letters.len().pow(length) {
+                let mut line = start.as_bytes().to_vec();
+                line.extend((0..length).map(|i| letters[code / letters.len().pow(i) % letters.len()]));
+                read(count, &line, &figures(code % 7));
+                for index in 0..=length as u64 {
+                    field(count, &line, index);
+                }
+                count.tried(format!("small: up to {} bytes of {:?} after {:?}", most, alphabet, start));
+            }
+        }
+    }
+}
+
+fn generated(count: &mut Count) {
+    let mut random = Random::new(SEED);
+    for _ in 0..GENERATED {
+        let (mut line, fields) = good(&mut random);
+        let shape = damage(&mut random, &mut line);
+        let places = match random.between(1, 4) {
+            1 => fields,
+            2 => fields.saturating_sub(1),
+            3 => random.between(0, 8) as usize,
+            _ => fields + random.between(0, 9) as usize,
+        };
+        read(count, &line, &figures(places));
+        let commas = line.iter().filter(|&&b| b == b',').count() as u64;
+        let index = random.pick(&[0, 1, commas.saturating_sub(1), commas, commas + 1, u64::MAX]);
+        field(count, &line, index);
+        let index = random.between(0, commas + 2);
+        field(count, &line, index);
+        count.tried(format!("generated, {}", shape));
+    }
+}
+
+/// A line that is read, and its number of fields.
+fn good(random: &mut Random) -> (Vec<u8>, usize) {
+    let (start, fields) = match random.between(1, 5) {
+        1 => ("MRE,1,", 3),
+        2 => ("P,", 5),
+        3 => ("H,", 2),
+        4 => ("G,", random.between(2, 12) as usize),
+        _ if random.chance(10) => ("G,", random.between(13, 513) as usize),
+        _ => ("G,", 3),
+    };
+    let words: Vec<String> = (0..fields).map(|_| word(random)).collect();
+    (format!("{}{}", start, words.join(",")).into_bytes(), fields)
+}
+
+/// A figure of 1 to 19 digits.
+fn word(random: &mut Random) -> String {
+    match random.between(1, 20) {
+        1 => "0".to_string(),
+        2 => "9".repeat(19),
+        3 => format!("1{}", "0".repeat(18)),
+        _ => random.sized(63).min(9_999_999_999_999_999_999).to_string(),
+    }
+}
+
+fn damage(random: &mut Random, line: &mut Vec<u8>) -> &'static str {
+    let at = random.between(0, line.len() as u64 - 1) as usize;
+    match random.between(1, 10) {
+        1 => {
+            line[at] = random.pick(b",0/9:;GHPM \r-+");
+            "a byte changed"
+        }
+        2 => {
+            line.insert(at, random.pick(b",01/9: \0\xff"));
+            "a byte put in"
+        }
+        3 => {
+            line.remove(at);
+            "a byte taken out"
+        }
+        4 => {
+            line.truncate(at);
+            "cut off"
+        }
+        5 => {
+            line.extend_from_slice(b",7");
+            "one field more"
+        }
+        6 => {
+            let from = line.iter().rposition(|&b| b == b',').map_or(0, |comma| comma + 1);
+            line.insert(from, b'0');
+            "a leading zero"
+        }
+        7 => {
+            let from = line.iter().rposition(|&b| b == b',').map_or(0, |comma| comma + 1);
+            line.truncate(from);
+            line.extend_from_slice(random.pick(&[&[b'1'; 19][..], &[b'9'; 20], &[b'1'; 20], b""]));
+            "a last field of 0, 19 or 20 digits"
+        }
+        8 => {
+            let length = LONGEST - 2 + random.between(0, 4) as usize;
+            line.resize(length, random.pick(b",5"));
+            "8,190 to 8,194 bytes"
+        }
+        _ => "as it is",
+    }
+}
+
+/// Each limit with its neighbours. The numbers here are read from 01, so that they hold the second program too.
+fn limits(count: &mut Count) {
+    let mut limit = |line: &[u8], places: usize, wanted: u64| {
+        let number = read(count, line, &figures(places));
+        count.case(number == wanted, || {
+            format!("limit: {}, {} places: {}, wanted {}", shown(line), places, number, wanted)
+        });
+        count.tried("limits with their neighbours, number read from 01");
+    };
+    let meter = |fields: usize| format!("G{}", ",1".repeat(fields)).into_bytes();
+    // 26: a G line of 8,192 bytes, and one more; 26 comes before 27, 28 and 29.
+    let long = |length: usize| {
+        let mut line = b"G,1".to_vec();
+        while line.len() + 16 <= length {
+            line.extend_from_slice(b",123456789012345");
+        }
+        line.push(b',');
+        line.resize(length, b'1');
+        line
+    };
+    limit(&long(LONGEST - 1), 600, 0);
+    limit(&long(LONGEST), 600, 0);
+    limit(&long(LONGEST + 1), 600, 26);
+    for filling in [b'x', b'1', b','] {
+        limit(&vec![filling; LONGEST], 600, 27);
+        limit(&vec![filling; LONGEST + 1], 600, 26);
+    }
+    // 27: each start, whole and cut short.
+    for (line, wanted) in [
+        ("MRE,1,1,2,3", 0),
+        ("MRE,1", 27),
+        ("MRE,2,1,2,3", 27),
+        ("MRE,11,2,3", 27),
+        ("MRE1,1,2,3", 27),
+        ("P,1,2,3,4,5", 0),
+        ("P", 27),
+        ("p,1,2,3,4,5", 27),
+        ("H,1,2", 0),
+        ("H;1,2", 27),
+        ("G,1,2", 0),
+        (",G,1,2", 27),
+        ("", 27),
+        // 28: fields one fewer and one more; it comes before 29 and 30.
+        ("MRE,1,1,2", 28),
+        ("MRE,1,1,2,3,4", 28),
+        ("P,1,2,3,4", 28),
+        ("P,1,2,3,4,5,6", 28),
+        ("H,1", 28),
+        ("H,1,2,3", 28),
+        ("H,x", 28),
+        ("G,1", 28),
+        ("G,", 28),
+        // 29: digits, their number, and leading zeros.
+        ("H,1,0", 0),
+        ("H,1,00", 29),
+        ("H,1,01", 29),
+        ("H,0,10", 0),
+        ("H,1,", 29),
+        ("H,,1", 29),
+        ("H,1,/", 29),
+        ("H,1,:", 29),
+        ("H,1,9999999999999999999", 0),
+        ("H,1,10000000000000000000", 29),
+        ("H,1,1\r", 29),
+        ("H,1,-1", 29),
+    ] {
+        limit(line.as_bytes(), 600, wanted);
+    }
+    limit(&meter(513), 513, 0);
+    limit(&meter(514), 600, 28);
+    limit(&meter(2), 2, 0);
+    // 30: as many places as fields, and one fewer; it comes after 29.
+    for (line, fields) in [("MRE,1,1,2,3", 3), ("P,1,2,3,4,5", 5), ("H,1,2", 2), ("G,1,2", 2), ("G,1,2,3,4", 4)] {
+        limit(line.as_bytes(), fields, 0);
+        limit(line.as_bytes(), fields - 1, 30);
+        limit(line.as_bytes(), 0, 30);
+    }
+    limit(&meter(513), 512, 30);
+    limit(b"H,1,x", 0, 29);
+    field_limits(count);
+}
+
+fn field_limits(count: &mut Count) {
+    let full = vec![b','; LONGEST];
+    let over = vec![b','; LONGEST + 1];
+    let cases: &[(&[u8], u64, u64)] = &[
+        (b"", 0, 0),
+        (b"", 1, 28),
+        (b"MRE,1,2", 0, 0),
+        (b"MRE,1,2", 2, 0),
+        (b"MRE,1,2", 3, 28),
+        (b"MRE,1,2", u64::MAX, 28),
+        (b",", 1, 0),
+        (b",", 2, 28),
+        (&full, LONGEST as u64, 0),
+        (&full, LONGEST as u64 + 1, 28),
+        (&over, 0, 26),
+        (&over, u64::MAX, 26),
+    ];
+    for &(line, index, wanted) in cases {
+        let number = field(count, line, index);
+        count.case(number == wanted, || {
+            format!("limit: {}, field {}: {}, wanted {}", shown(line), index, number, wanted)
+        });
+        count.tried("limits with their neighbours, number read from 01");
+    }
+}
+
+/// Every line of generated month files, good and damaged, and each of their fields.
+fn files(count: &mut Count) {
+    for kind in program::kinds().iter().filter(|kind| kind.starts_with("month-") || kind.starts_with("file-")) {
+        // The largest shapes are read once: their lines are alike.
+        let seeds = if program::generated(1, kind).len() < 200_000 { FILES } else { 1 };
+        for seed in 1..=seeds {
+            let file = program::generated(seed, kind);
+            for line in file.split(|&b| b == b'\n') {
+                read(count, line, &figures(513));
+                let fields = line.iter().filter(|&&b| b == b',').count() as u64 + 1;
+                for index in [0, 1, fields / 2, fields - 1, fields] {
+                    field(count, line, index);
+                }
+                count.tried("lines of generated month files");
+            }
+            count.tried("generated month files");
+        }
+    }
+}

@@ -75,9 +75,7 @@ fn figures(places: usize) -> Vec<u64> {
 
 /// Every line of up to five bytes of a short alphabet, by itself and after each start.
 fn small(count: &mut Count) {
-    for (start, alphabet, most) in
-        [("", "GHP,01:", 5), ("MRE,1,", ",019:", 5), ("P,1,2,", ",01/9", 5), ("G,", ",01 -", 4)]
-    {
+    for (start, alphabet, most) in [("", "GHP,01:", 5), ("MRE,1,", ",019:", 5), ("P,1,2,", ",01/9", 5), ("G,", ",01 -", 4)] {
         let letters = alphabet.as_bytes();
         for length in 0..=most {
             for code in 0..letters.len().pow(length) {
@@ -185,9 +183,7 @@ fn damage(random: &mut Random, line: &mut Vec<u8>) -> &'static str {
 fn limits(count: &mut Count) {
     let mut limit = |line: &[u8], places: usize, wanted: u64| {
         let number = read(count, line, &figures(places));
-        count.case(number == wanted, || {
-            format!("limit: {}, {} places: {}, wanted {}", shown(line), places, number, wanted)
-        });
+        count.case(number == wanted, || format!("limit: {}, {} places: {}, wanted {}", shown(line), places, number, wanted));
         count.tried("limits with their neighbours, number read from 01");
     };
     let meter = |fields: usize| format!("G{}", ",1".repeat(fields)).into_bytes();
@@ -282,9 +278,7 @@ fn field_limits(count: &mut Count) {
     ];
     for &(line, index, wanted) in cases {
         let number = field(count, line, index);
-        count.case(number == wanted, || {
-            format!("limit: {}, field {}: {}, wanted {}", shown(line), index, number, wanted)
-        });
+        count.case(number == wanted, || format!("limit: {}, field {}: {}, wanted {}", shown(line), index, number, wanted));
         count.tried("limits with their neighbours, number read from 01");
     }
 }

@@ -7,27 +7,15 @@
 //! is 0 only if nothing failed and something was tried.
 
 mod count;
-mod lent;
-mod limits;
-mod lines;
-mod month;
-mod program;
 mod random;
 mod recorder;
 mod script;
 mod share;
 mod transfer;
-mod worked;
 
 type Part = (&'static str, fn(&mut count::Count));
 
-const PARTS: [Part; 5] = [
-    ("share", share::run),
-    ("transfer", transfer::run),
-    ("lines", lines::run),
-    ("month", month::run),
-    ("scripts", script::run),
-];
+const PARTS: [Part; 3] = [("share", share::run), ("transfer", transfer::run), ("scripts", script::run)];
 
 fn main() {
     let asked: Vec<String> = std::env::args().skip(1).collect();

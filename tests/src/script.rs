@@ -3,26 +3,18 @@
 //! print is compared line by line: every answer, every list shown, and the month and ledger at the end.
 
 use crate::count::Count;
-use crate::program;
-use crate::recorder::{self, Month, Plant};
+use crate::recorder;
 use std::collections::BTreeMap;
 use std::fmt::Write as _;
+use std::io::Write as _;
+use std::path::PathBuf;
+use std::process::{Command, Stdio};
 
-/// Every kind of script, with how many seeds of it are run. The scripts of limits and of the paper have no seed.
-const KINDS: [(&str, u64); 8] = [
-    ("calls-random", 2_000),
-    ("calls-hours", 2_000),
-    ("calls-limits", 1),
-    ("calls-big", 20),
-    ("calls-share", 2_000),
-    ("calls-transfer", 2_000),
-    ("calls-lines", 2_000),
-    ("calls-paper", 1),
-];
+/// Document 01 alone is stage 0; stage N has the requests E1 to EN in force.
+const STAGE: &str = "0";
 
-/// Calls that the recorder does not export yet. They change nothing but `bytes`, so both programs get the script
-/// without them.
-const LEFT_OUT: [&str; 3] = ["statement", "size", "show bytes"];
+/// The kinds whose calls all stand, with how many seeds of each are run.
+const KINDS: [(&str, u64); 2] = [("calls-share", 200), ("calls-transfer", 200)];
 
 const UNSIGNED: [&str; 14] = [
     "plants", "profile", "levels", "metered", "allot", "kwh", "bytes", "line", "figures", "weights", "parts", "table",
@@ -33,8 +25,9 @@ const SIGNED: [&str; 2] = ["signed", "totals"];
 pub fn run(count: &mut Count) {
     for (kind, seeds) in KINDS {
         for seed in 1..=seeds {
-            let script = standing(count, &program::generated(seed, kind));
-            let theirs = program::calls(&script);
+            let script = second(&["gen", &seed.to_string(), kind, "--stage", STAGE], b"");
+            let theirs = second(&["calls", "--stage", STAGE], &script);
+            let theirs = String::from_utf8(theirs).expect("the second program answers in plain text");
             match Bench::new().play(&script) {
                 Ok(ours) => compare(count, kind, seed, &ours, &theirs),
                 Err(why) => count.case(false, || format!("{} seed {}: {}", kind, seed, why)),
@@ -44,26 +37,10 @@ pub fn run(count: &mut Count) {
     }
 }
 
-/// The script without the calls that are left out, and without the numbers expected of them.
-fn standing(count: &mut Count, script: &[u8]) -> Vec<u8> {
-    let mut kept: Vec<&[u8]> = Vec::new();
-    for line in script.split(|&b| b == b'\n') {
-        if LEFT_OUT.iter().any(|call| line == call.as_bytes()) {
-            count.tried("left out: statement, size and their bytes shown");
-            if kept.last().is_some_and(|last| last.starts_with(b"# expect ")) {
-                kept.pop();
-            }
-        } else {
-            kept.push(line);
-        }
-    }
-    kept.join(&b'\n')
-}
-
 /// A line that both print alike is a case; so is a script whose outputs are alike to the end.
 fn compare(count: &mut Count, kind: &str, seed: u64, ours: &str, theirs: &str) {
     for (at, (our, their)) in ours.lines().zip(theirs.lines()).enumerate() {
-        count.case(alike(our, their), || format!("{} seed {}, line {}: {}, wanted {}", kind, seed, at + 1, our, their));
+        count.case(our == their, || format!("{} seed {}, line {}: {}, wanted {}", kind, seed, at + 1, our, their));
         let mut words = our.split(' ');
         if let (Some(call), Some(number)) = (words.next(), words.next()) {
             if !UNSIGNED.contains(&call) && !SIGNED.contains(&call) && call != "month" {
@@ -71,25 +48,33 @@ fn compare(count: &mut Count, kind: &str, seed: u64, ours: &str, theirs: &str) {
             }
         }
     }
-    let same = ours.lines().count() == theirs.lines().count();
-    count.case(same, || format!("{} seed {}: the outputs differ in length", kind, seed));
+    count.case(ours == theirs, || format!("{} seed {}: the outputs differ in length", kind, seed));
 }
 
-/// Equal, but for a size: 01 leaves its answer free between the bytes that the statement writes and 128P + 128, which
-/// the second program prints last and before it.
-fn alike(our: &str, their: &str) -> bool {
-    let figures = |line: &str| line.split(' ').skip(1).map(|word| word.parse().ok()).collect::<Option<Vec<u64>>>();
-    match (our.strip_prefix("size "), figures(our).as_deref(), figures(their).as_deref()) {
-        (Some(_), Some([number, size]), Some([wanted, limit, written])) => {
-            number == wanted && written <= size && size <= limit
-        }
-        _ => our == their,
-    }
+/// Runs the second program, which stands beside this one, on an input.
+fn second(words: &[&str], input: &[u8]) -> Vec<u8> {
+    let mut program: PathBuf = std::env::current_exe().expect("this program has a path");
+    program.set_file_name("second");
+    let mut child = Command::new(&program)
+        .args(words)
+        .stdin(Stdio::piped())
+        .stdout(Stdio::piped())
+        .spawn()
+        .unwrap_or_else(|why| panic!("{}: {}", program.display(), why));
+    let mut stdin = child.stdin.take().expect("standard input is piped");
+    let input = input.to_vec();
+    // Written beside the reading: either side may fill its pipe.
+    let writer = std::thread::spawn(move || stdin.write_all(&input));
+    let output = child.wait_with_output().expect("the second program's output");
+    let written = writer.join().expect("the writing thread");
+    assert!(output.status.success(), "second {}: {}", words.join(" "), output.status);
+    assert!(written.is_ok() || words[0] == "gen", "second {} did not read its input", words.join(" "));
+    output.stdout
 }
 
-/// Everything that a script can name. The month is blank until a `month` line.
+/// Everything that a script can name. The month is blank until a `month` line; no call of KINDS takes it yet.
 struct Bench {
-    month: Month,
+    month: [u64; 5],
     unsigned: BTreeMap<&'static str, Vec<u64>>,
     signed: BTreeMap<&'static str, Vec<i64>>,
     expected: Option<u64>,
@@ -99,7 +84,7 @@ struct Bench {
 impl Bench {
     fn new() -> Bench {
         Bench {
-            month: Month { stage: 0, plants: 0, periods: 0, tariff: 0, due: 0 },
+            month: [0; 5],
             unsigned: UNSIGNED.iter().map(|&name| (name, Vec::new())).collect(),
             signed: SIGNED.iter().map(|&name| (name, Vec::new())).collect(),
             expected: None,
@@ -143,13 +128,7 @@ impl Bench {
             }
             ["show", name] => self.show(name),
             ["month", stage, plants, periods, tariff, due, _edition, _first] => {
-                self.month = Month {
-                    stage: figure(stage)?,
-                    plants: figure(plants)?,
-                    periods: figure(periods)?,
-                    tariff: figure(tariff)?,
-                    due: figure(due)?,
-                };
+                self.month = [figure(stage)?, figure(plants)?, figure(periods)?, figure(tariff)?, figure(due)?];
                 Ok(())
             }
             [name, ref rest @ ..] if UNSIGNED.contains(&name) || SIGNED.contains(&name) => self.put(name, rest, true),
@@ -189,32 +168,13 @@ impl Bench {
     }
 
     fn show_month(&mut self) {
-        let Month { stage, plants, periods, tariff, due } = self.month;
-        let _ = writeln!(self.out, "month{}", words_of(&[stage, plants, periods, tariff, due]));
+        let _ = writeln!(self.out, "month{}", words_of(&self.month));
     }
 
     fn show_state(&mut self) {
         self.show_month();
         self.show("kwh").expect("the ledger has a list kwh");
         self.show("signed").expect("the ledger has a list signed");
-    }
-
-    /// Seven words a record; owner and capacity come with E3.
-    fn plants(&self) -> Vec<Plant> {
-        let record =
-            |w: &[u64]| Plant { submarket: w[0], number: w[1], guarantee: w[2], loss: w[3], availability: w[4] };
-        self.unsigned["plants"].chunks_exact(7).map(record).collect()
-    }
-
-    fn line_bytes(&self) -> Result<Vec<u8>, String> {
-        self.unsigned["line"].iter().map(|&b| u8::try_from(b).map_err(|_| "not a byte".to_string())).collect()
-    }
-
-    /// What a call leaves.
-    fn keep(&mut self, month: Month, allotted: Vec<u64>, accounts: Vec<i64>) {
-        self.month = month;
-        self.unsigned.insert("kwh", allotted);
-        self.signed.insert("signed", accounts);
     }
 
     // ---- calls
@@ -230,59 +190,6 @@ impl Bench {
 
     fn call(&mut self, call: &str, words: &[&str]) -> Result<(), String> {
         match (call, words) {
-            ("open", [tariff, "1", _first]) => {
-                let (mut allotted, mut accounts) = (self.unsigned["kwh"].clone(), self.signed["signed"].clone());
-                let profile = &self.unsigned["profile"];
-                let tariff = figure(tariff)?;
-                let end = recorder::open(self.month, &self.plants(), profile, tariff, &mut allotted, &mut accounts);
-                self.keep(end.month, allotted, accounts);
-                self.answer(call, end.number, "")
-            }
-            ("settle", []) => {
-                let (mut allotted, mut accounts) = (self.unsigned["kwh"].clone(), self.signed["signed"].clone());
-                let mut allotment = self.unsigned["allot"].clone();
-                let (profile, metered) = (&self.unsigned["profile"], &self.unsigned["metered"]);
-                let plants = self.plants();
-                let hour = recorder::settle(
-                    self.month,
-                    &plants,
-                    profile,
-                    metered,
-                    &mut allotment,
-                    &mut allotted,
-                    &mut accounts,
-                );
-                self.keep(hour.month, allotted, accounts);
-                self.unsigned.insert("allot", allotment);
-                let mut rest = words_of(&[hour.secondary, hour.guarantees]);
-                rest += &words_of(&hour.cover_table.rows.concat());
-                rest += &words_of(&hour.secondary_table.rows.concat());
-                self.answer(call, hour.number, &rest)
-            }
-            ("balance", []) => {
-                let sums = recorder::balance(self.month, &self.unsigned["kwh"], &self.signed["signed"]);
-                self.month = sums.month;
-                let rest = words_of(&sums.columns) + &words_of(&[sums.net, sums.money]);
-                self.answer(call, sums.number, &rest)
-            }
-            ("close", []) => {
-                let end = recorder::close(self.month);
-                self.month = end.month;
-                self.answer(call, end.number, "")
-            }
-            ("read", []) => {
-                let mut figures = self.unsigned["figures"].clone();
-                let line = recorder::read_line(&self.line_bytes()?, &mut figures);
-                self.unsigned.insert("figures", figures);
-                self.answer(call, line.number, &words_of(&[line.start, line.fields]))
-            }
-            ("field", [index]) => {
-                let line = self.line_bytes()?;
-                let place = recorder::field(&line, figure(index)?);
-                let part = &line[place.start as usize..][..place.length as usize];
-                let rest = words_of(&[place.length]) + &words_of(part);
-                self.answer(call, place.number, &rest)
-            }
             ("share", [total, "1"]) => {
                 let mut parts = self.unsigned["parts"].clone();
                 let number = recorder::share(figure(total)?, &self.unsigned["weights"], &mut parts);

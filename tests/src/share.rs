@@ -2,7 +2,6 @@
 //! with its neighbours.
 
 use crate::count::Count;
-use crate::lent::Lent;
 use crate::random::Random;
 use crate::recorder;
 use second::Rule;
@@ -28,14 +27,18 @@ fn compare(count: &mut Count, total: u64, weights: &[u64], before: &[u64]) -> u6
     let mut theirs = before.to_vec();
     let their_number = second::share_call(Rule::RunningTotal, total, weights, &mut theirs) as u64;
 
-    let mut lent = Lent::new(before, AROUND);
+    let mut lent = vec![AROUND];
+    lent.extend_from_slice(before);
+    lent.push(AROUND);
+    let end = lent.len() - 1;
     let read = weights.to_vec();
-    let number = recorder::share(total, &read, lent.list());
-    let (ours, kept) = lent.back();
+    let number = recorder::share(total, &read, &mut lent[1..end]);
+    let ours = &lent[1..end];
 
-    let alike = number == their_number && ours == theirs;
-    let lawful = if number == 0 { is_lawful(total, weights, &ours) } else { ours == before };
-    count.case(alike && kept && read == weights && lawful, || {
+    let alike = number == their_number && ours == &theirs[..];
+    let kept = read == weights && lent[0] == AROUND && lent[end] == AROUND;
+    let lawful = if number == 0 { is_lawful(total, weights, ours) } else { ours == before };
+    count.case(alike && kept && lawful, || {
         format!(
             "T {} over {:?}, lent {:?}: {} {:?}, wanted {} {:?}",
             total, weights, before, number, ours, their_number, theirs

@@ -32,7 +32,7 @@ pub fn field_at(line: &[u8], from: usize) -> &[u8]
 }
 
 // Where a field starts, counted from 0 at the line's first byte; past the line's end where there is none.
-fn field_start(line: &[u8], index: u64) -> usize
+pub fn field_start(line: &[u8], index: u64) -> usize
     ensures { λ r. ⌜ Starts (now (line .entry)) index r ⌝ }
 {
     let mut at: usize = 0;
@@ -49,7 +49,7 @@ fn field_start(line: &[u8], index: u64) -> usize
 }
 
 // The number of the field call.
-fn field_number(line: &[u8], index: u64) -> u64
+pub fn field_number(line: &[u8], index: u64) -> u64
     ensures { λ r. ⌜ r ≡ fieldNumber (now (line .entry)) index ⌝ }
 {
     if LONGEST < line.len() {

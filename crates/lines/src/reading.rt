@@ -12,6 +12,8 @@ ghost use Rattle.lines.specs.Inner.{ReadAs, ReadTo};
 use crate::fields::LONGEST;
 use crate::fields::field_at;
 
+// What reading answers. C reads it as it stands.
+#[repr(C)]
 pub struct Line {
     pub number: u64,
     pub start: u64,

@@ -1,13 +1,8 @@
 // The month's calls for C. A month with an enum cannot cross: C keeps one whose stage is a number.
-use hour::Plant;
 use month::Month;
 use month::Stage;
-use sharing::Table;
 ghost use mathlib.Core.Path.{_≡_};
-ghost use mathlib.Core.List.{List};
-ghost use Rattle.hour.specs.declared.Plant.{Plant};
-ghost use Rattle.records.specs.Records.{Held};
-ghost use Rattle.recorder.specs.Months.{stageOf, stageNumber, monthOf, keptOf, handedBack, KeptOpening, openKept, KeptSettling, settleKept, closeKept, balanceKept};
+ghost use Rattle.recorder.specs.Months.{stageOf, stageNumber, monthOf, keptOf, handedBack, closeKept, balanceKept};
 
 // A month as the caller keeps it. Stage: 0 blank, 1 open, 2 closed; any other number is read as blank.
 #[repr(C)]
@@ -26,20 +21,9 @@ pub struct KeptEnd {
     pub month: KeptMonth,
 }
 
-// What settle answers: the number, the month handed back, Z, A and both tables.
-#[repr(C)]
-pub struct KeptHour {
-    pub number: u64,
-    pub month: KeptMonth,
-    pub secondary: u64,
-    pub guarantees: u64,
-    pub cover_table: Table,
-    pub secondary_table: Table,
-}
-
 // What balance answers: the number, the month handed back, the four column sums, the sum of nets and the sum of money.
 #[repr(C)]
-pub struct KeptSums {
+pub struct KeptBalance {
     pub number: u64,
     pub month: KeptMonth,
     pub columns: [u64; 4],
@@ -106,88 +90,6 @@ fn handed_back(number: u64, kept: KeptMonth, month: Month) -> KeptMonth
     kept_of(month)
 }
 
-// Open on the columns of n records.
-fn open_kept(
-    kept: KeptMonth,
-    n: usize,
-    c: [u64; 2560],
-    profile: &[u64],
-    tariff: u64,
-    allotted: &mut [u64],
-    accounts: &mut [i64],
-) -> KeptEnd
-    ensures { λ r. ⌜ ((plants : List Plant) → Held plants n c → _≡_ {A = KeptOpening} (record { answer = r; ledger = record { allotted = now (allotted .exit); accounts = now (accounts .exit) } }) (openKept kept plants (now (profile .entry)) tariff (record { allotted = now (allotted .entry); accounts = now (accounts .entry) }))) ⌝ }
-{
-    let opened = month_of(kept).open_table(n, c, profile, tariff, allotted, accounts);
-    let after = opened.month;
-    KeptEnd {
-        number: opened.number,
-        month: handed_back(opened.number, kept, after),
-    }
-}
-
-// Month::open.
-#[no_mangle]
-pub extern "C" fn iolwarch_open(
-    month: KeptMonth,
-    plants: &[Plant],
-    profile: &[u64],
-    tariff: u64,
-    allotted: &mut [u64],
-    accounts: &mut [i64],
-) -> KeptEnd
-    ensures { λ r. ⌜ _≡_ {A = KeptOpening} (record { answer = r; ledger = record { allotted = now (allotted .exit); accounts = now (accounts .exit) } }) (openKept month (now (plants .entry)) (now (profile .entry)) tariff (record { allotted = now (allotted .entry); accounts = now (accounts .entry) })) ⌝ }
-{
-    let n = plants.len();
-    let c = records::columns(plants);
-    open_kept(month, n, c, profile, tariff, allotted, accounts)
-}
-
-// Settle on the columns of n records.
-fn settle_kept(
-    kept: KeptMonth,
-    n: usize,
-    c: [u64; 2560],
-    profile: &[u64],
-    metered: &[u64],
-    allotment: &mut [u64],
-    allotted: &mut [u64],
-    accounts: &mut [i64],
-) -> KeptHour
-    ensures { λ r. ⌜ ((plants : List Plant) → Held plants n c → _≡_ {A = KeptSettling} (record { answer = r; allotment = now (allotment .exit); ledger = record { allotted = now (allotted .exit); accounts = now (accounts .exit) } }) (settleKept kept plants (now (profile .entry)) (now (metered .entry)) (now (allotment .entry)) (record { allotted = now (allotted .entry); accounts = now (accounts .entry) }))) ⌝ }
-{
-    let settled = month_of(kept).settle_table(n, c, profile, metered, allotment, allotted, accounts);
-    let after = settled.month;
-    let cover_table = settled.cover_table;
-    let secondary_table = settled.secondary_table;
-    KeptHour {
-        number: settled.number,
-        month: handed_back(settled.number, kept, after),
-        secondary: settled.secondary,
-        guarantees: settled.guarantees,
-        cover_table,
-        secondary_table,
-    }
-}
-
-// Month::settle.
-#[no_mangle]
-pub extern "C" fn iolwarch_settle(
-    month: KeptMonth,
-    plants: &[Plant],
-    profile: &[u64],
-    metered: &[u64],
-    allotment: &mut [u64],
-    allotted: &mut [u64],
-    accounts: &mut [i64],
-) -> KeptHour
-    ensures { λ r. ⌜ _≡_ {A = KeptSettling} (record { answer = r; allotment = now (allotment .exit); ledger = record { allotted = now (allotted .exit); accounts = now (accounts .exit) } }) (settleKept month (now (plants .entry)) (now (profile .entry)) (now (metered .entry)) (now (allotment .entry)) (record { allotted = now (allotted .entry); accounts = now (accounts .entry) })) ⌝ }
-{
-    let n = plants.len();
-    let c = records::columns(plants);
-    settle_kept(month, n, c, profile, metered, allotment, allotted, accounts)
-}
-
 // Month::close.
 #[no_mangle]
 pub extern "C" fn iolwarch_close(month: KeptMonth) -> KeptEnd
@@ -207,12 +109,12 @@ pub extern "C" fn iolwarch_balance(
     month: KeptMonth,
     allotted: &[u64],
     accounts: &[i64],
-) -> KeptSums
+) -> KeptBalance
     ensures { λ r. ⌜ r ≡ balanceKept month (record { allotted = now (allotted .entry); accounts = now (accounts .entry) }) ⌝ }
 {
     let balance = month_of(month).balance(allotted, accounts);
     let columns = balance.columns;
-    KeptSums {
+    KeptBalance {
         number: balance.number,
         month,
         columns,

@@ -150,14 +150,14 @@ module _ (h : Hour) (ok : Sound h) where
   g₂ s = at s (secondaryGot h) []
 
   -- what a plant has in its own submarket
-  home : List ℕ
+  pub home : List ℕ
   home = G ⊓ b ⊕ o₁ ⊕ o₂
 
-  at-home : (i : ℕ) → home ! i ≡ min (G ! i) (b ! i) + o₁ ! i + o₂ ! i
+  pub at-home : (i : ℕ) → home ! i ≡ min (G ! i) (b ! i) + o₁ ! i + o₂ ! i
   unfolding home
   at-home i = let p = at-⊕ (G ⊓ b ⊕ o₁) o₂ i in let q = at-⊕ (G ⊓ b) o₁ i in let s = at-⊓ G b i in omega arith
 
-  at-figure : (s : ℕ) → 1 ≤ s → s ≤ 4 → (i : ℕ) → figure h s ! i ≡ inside s (subs ! i) (home ! i) + (g₁ s ! i + g₂ s ! i)
+  pub at-figure : (s : ℕ) → 1 ≤ s → s ≤ 4 → (i : ℕ) → figure h s ! i ≡ inside s (subs ! i) (home ! i) + (g₁ s ! i + g₂ s ! i)
   unfolding figure home ownCover ownSecondary coverGot secondaryGot
   at-figure s l k i =
       at-⊕ (within s subs home) (outside s subs (g₁ s ⊕ g₂ s)) i

@@ -2,3 +2,9 @@
 pub mod Hour
 pub mod Figures
 pub mod Table
+pub mod Profile
+pub mod Written
+pub mod Fours
+pub mod Allotment
+pub mod Limits
+pub mod Submarkets

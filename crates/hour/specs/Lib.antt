@@ -1,3 +1,5 @@
 -- Document 01, 'One hour', as definitions.
 pub mod Hour
 pub mod Table
+pub mod Steps
+pub mod Work

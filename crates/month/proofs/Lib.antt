@@ -1,4 +1,7 @@
--- The ledger adds up over the hours, and demand 3.
+-- The ledger adds up over the hours, and demand 3; what answered questions tell; the rows' questions.
 pub mod Sums
 pub mod Accepted
 pub mod Demand
+pub mod Asked
+pub mod Rows
+pub mod Workable

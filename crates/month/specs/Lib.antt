@@ -1,5 +1,6 @@
 -- Document 01, 'Calls', 'The questions' and 'The tally of a list', as definitions.
 pub mod Questions
 pub mod Calls
+pub mod Steps
 pub mod Tally
 pub mod Worked

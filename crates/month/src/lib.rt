@@ -1,6 +1,12 @@
 // The month and its calls (document 01, 'Calls' and 'The questions').
 use sharing::Table;
 
+pub mod balance;
+pub mod close;
+pub mod open;
+pub mod questions;
+pub mod settle;
+
 // A month is blank, open or closed.
 pub enum Stage {
     Blank,

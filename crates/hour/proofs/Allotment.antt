@@ -1,0 +1,108 @@
+-- Step 8 as the code builds it: min(G, b) in the own submarket, and then what the submarkets supplied, twice. Assumes nothing.
+use mathlib.Core.Path.{_≡_, refl, sym, ap, _∙_}
+use mathlib.Core.Bool.{Bool, true, false, cond}
+use mathlib.Core.List.{List, [], _∷_}
+use Prim.Native.Nat.{ℕ, _+_, _-_, _*_, min, max, _≤_, _<_}
+use native.Mathlib.Omega.{arith}
+use lib.Dec.{eqb}
+use lib.ListN.{length, getD}
+use Rattle.lists.specs.Lists.{sum}
+use Rattle.lists.specs.Columns.{rowwise, _⊕_, _⊓_, inside, within, four, at, byRow}
+use Rattle.lists.proofs.Columns.{_!_, length-rowwise, at-⊕, at-⊓, at-within}
+use Rattle.sharing.specs.Laws.{Lawful}
+use Rattle.sharing.specs.Sharing.{Rule}
+use Rattle.cover.specs.Cover.{ownParts, got, supplied}
+use Rattle.cover.proofs.Cover.{own-sized, got-sized}
+use Rattle.hour.specs.Hour.{Hour, submarkets, covered, deficit, surplus, leftOver, rights, ownCover, coverGot, ownSecondary, secondaryGot, figure, allotment}
+use Rattle.hour.proofs.Hour.{Sound, rows-subs, rows-G, rows-b, rows-d, rows-r, home, at-home, at-figure, figure-le}
+use Rattle.hour.proofs.Figures.{allotment-at, allotment-sized}
+use Rattle.hour.proofs.Fours.{by-fours, fours-sized, fours-at}
+
+module _ {rule : Rule} (L : Lawful rule) (subs have want : List ℕ) (same : length want ≡ length subs) where
+  pub supplied-sized : (s : ℕ) → length (supplied rule subs have want s) ≡ length subs
+  unfolding supplied
+  supplied-sized s =
+      length-rowwise _+_ 0 0 (within s subs (ownParts rule subs have want)) (at s (got rule subs have want) [])
+      ∙ (let a = length-rowwise (inside s) 0 0 subs (ownParts rule subs have want) in
+      let b = own-sized L subs have want (omega arith) in
+      let c = got-sized L subs have want (s - 1) (omega arith) in
+      omega arith)
+
+  pub at-supplied : (s i : ℕ) → supplied rule subs have want s ! i
+      ≡ inside s (subs ! i) (ownParts rule subs have want ! i) + at s (got rule subs have want) [] ! i
+  unfolding supplied
+  at-supplied s i =
+      at-⊕ (within s subs (ownParts rule subs have want)) (at s (got rule subs have want) []) i
+      ∙ ap (λ (x : ℕ). x + at s (got rule subs have want) [] ! i) (at-within s subs (ownParts rule subs have want) i)
+
+inside-three : (t : Bool) (x y z : ℕ) → cond t (x + y + z) 0 ≡ cond t x 0 + cond t y 0 + cond t z 0
+inside-three true x y z = refl
+inside-three false x y z = refl
+
+module _ (h : Hour) (ok : Sound h) where
+  abbrev subs : List ℕ
+  subs = submarkets h
+
+  abbrev first : ℕ → List ℕ
+  first = supplied (h .rule) subs (surplus h) (deficit h)
+
+  abbrev second : ℕ → List ℕ
+  second = supplied (h .rule) subs (leftOver h) (rights h)
+
+  begun-sized : (s : ℕ) → length (within s subs (h .metered ⊓ covered h)) ≡ length subs
+  begun-sized s =
+      length-rowwise (inside s) 0 0 subs (h .metered ⊓ covered h)
+      ∙ (let a = length-rowwise min 0 0 (h .metered) (covered h) in let b = rows-G h ok in let c = rows-b h ok in omega arith)
+
+  first-sized : (s : ℕ) → length (first s) ≡ length subs
+  first-sized = supplied-sized (ok .lawful) subs (surplus h) (deficit h) (rows-d h ok)
+
+  second-sized : (s : ℕ) → length (second s) ≡ length subs
+  second-sized = supplied-sized (ok .lawful) subs (leftOver h) (rights h) (rows-r h ok)
+
+  figure-is : (s : ℕ) → 1 ≤ s → s ≤ 4 → (i : ℕ) → figure h s ! i ≡ within s subs (h .metered ⊓ covered h) ! i + first s ! i + second s ! i
+  unfolding ownCover coverGot ownSecondary secondaryGot
+  figure-is s l k i =
+      let a = at-figure h ok s l k i in
+      let b = ap (inside s (subs ! i)) (at-home h ok i) ∙ inside-three (eqb (subs ! i) s) (min (h .metered ! i) (covered h ! i)) (ownCover h ! i) (ownSecondary h ! i) in
+      let c = at-within s subs (h .metered ⊓ covered h) i ∙ ap (inside s (subs ! i)) (at-⊓ (h .metered) (covered h) i) in
+      let d = at-supplied (ok .lawful) subs (surplus h) (deficit h) (rows-d h ok) s i in
+      let e = at-supplied (ok .lawful) subs (leftOver h) (rights h) (rows-r h ok) s i in
+      omega arith
+
+  pub allotment-built : allotment h
+      ≡ byRow 0 (four (λ s. within s subs (h .metered ⊓ covered h))) ⊕ byRow 0 (four first) ⊕ byRow 0 (four second)
+  allotment-built =
+      by-fours n (allotment h) (x ⊕ y ⊕ z) (allotment-sized h ok ∙ (let e = rows-subs h ok in omega arith))
+      (length-rowwise _+_ 0 0 (x ⊕ y) z ∙ (let a = length-rowwise _+_ 0 0 x y in let b = x-sized in let c = y-sized in let d = z-sized in omega arith))
+      (λ s i l k _.
+      let a = allotment-at h ok s l k i in let b = figure-is s l k i in
+      let c = at-⊕ (x ⊕ y) z (s - 1 + i * 4) in let d = at-⊕ x y (s - 1 + i * 4) in
+      let e = fours-at (λ s. within s subs (h .metered ⊓ covered h)) n begun-sized s l k i in
+      let f = fours-at first n first-sized s l k i in let g = fours-at second n second-sized s l k i in
+      omega arith)
+    where
+      n : ℕ
+      n = length subs
+
+      x : List ℕ
+      x = byRow 0 (four (λ s. within s subs (h .metered ⊓ covered h)))
+
+      y : List ℕ
+      y = byRow 0 (four first)
+
+      z : List ℕ
+      z = byRow 0 (four second)
+
+      x-sized : length x ≡ 4 * n
+      x-sized = fours-sized (λ s. within s subs (h .metered ⊓ covered h)) n begun-sized
+
+      y-sized : length y ≡ 4 * n
+      y-sized = fours-sized first n first-sized
+
+      z-sized : length z ≡ 4 * n
+      z-sized = fours-sized second n second-sized
+
+  -- no figure on the way is above the generation
+  pub begun-le : (s : ℕ) → 1 ≤ s → s ≤ 4 → (i : ℕ) → within s subs (h .metered ⊓ covered h) ! i + first s ! i ≤ sum (h .metered)
+  begun-le s l k i = let a = figure-is s l k i in let b = figure-le h ok s l k i in omega arith

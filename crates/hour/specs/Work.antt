@@ -1,0 +1,30 @@
+-- One hour on columns: what it is worked from, and what working it leaves. Assumes nothing.
+use Prim.Native.Nat.{ℕ, _*_, _^_, _≤_, _<_}
+use mathlib.Core.Path.{_≡_}
+use mathlib.Core.List.{List}
+use lib.IntN.{ℤ}
+use lib.ListN.{length}
+use Rattle.lists.specs.Lists.{sum, Within}
+use Rattle.cover.specs.Cover.{Standing}
+use Rattle.hour.specs.Hour.{Hour, guarantees, secondary, coverTable, secondaryTable, nets, allotment}
+use Rattle.hour.specs.Table.{Equal}
+
+-- The columns, profile, period and metered figures are in limits, and the lent lists as long as they must be (settle's questions 2, 3, 5 to 10
+-- and 13 to 18 answered yes)
+pub record Workable (ss ns gs ls vs profile : List ℕ) (k : ℕ) (metered lent : List ℕ) (lentNets : List ℤ) : Type 0 where
+  pub some : 1 ≤ length ss
+  pub rows : length ss ≤ 512
+  pub equal : Equal (length ss) ns gs ls vs
+  pub standing : Standing 0 ss
+  pub guarantees : Within gs (10 ^ 12)
+  pub losses : Within ls 1000000
+  pub availabilities : Within vs 1000000
+  pub hourly : Within profile (2 * 10 ^ 9)
+  pub periods : length profile ≤ 744
+  pub whole : 0 < sum profile
+  pub begun : 1 ≤ k
+  pub due : k ≤ length profile
+  pub meters : length metered ≡ length ss
+  pub generation : sum metered ≤ 2 * 10 ^ 9
+  pub figures : length lent ≡ 4 * length ss
+  pub netRows : length lentNets ≡ length ss

@@ -1,0 +1,155 @@
+-- Settle's questions 12 to 18 answered yes: the hour can be worked, and its figures can be added to a ledger in bounds. Assumes nothing.
+use mathlib.Core.Path.{_≡_, refl, sym, ap, _∙_, subst}
+use mathlib.Core.Bool.{true}
+use mathlib.Core.List.{List, [], _∷_}
+use Prim.Native.Nat.{ℕ, zero, suc, _+_, _-_, _*_, _/_, _%_, _^_, _≤_, _<_, zero-le}
+use native.Mathlib.Nat.{le-of-suc-le-suc, not-suc-le-zero}
+use native.Mathlib.Omega.{arith}
+use borrow.Author.Tests.{leb-true}
+use lib.IntN.{ℤ, pos, natAbs, subℕ}
+use lib.ListN.{length, getD}
+use Rattle.lists.specs.Lists.{sum, Within}
+use Rattle.lists.specs.Columns.{_⊕_}
+use Rattle.lists.proofs.Columns.{_!_, length-rowwise}
+use Rattle.lists.proofs.Questions.{asked, both, then-zero, at-most-at}
+use Rattle.lists.proofs.Sums.{at-le-sum}
+use Rattle.signed.proofs.View.{net-abs}
+use Rattle.hour.specs.declared.Plant.{Plant}
+use Rattle.hour.specs.Hour.{Hour, hourOf, figure, covered, rights, allotment, nets}
+use Rattle.hour.specs.Table.{plantsOf, Equal}
+use Rattle.hour.specs.Work.{Workable}
+use Rattle.hour.proofs.Hour.{Sound, figure-le, share-le, whole-sized}
+use Rattle.hour.proofs.Figures.{allotment-at, allotment-sized, at-nets}
+use Rattle.hour.proofs.Limits.{sound}
+use Rattle.hour.proofs.Table.{plant, length-plants, plants-submarkets, plant-at}
+use Rattle.cover.specs.Cover.{Standing}
+use Rattle.ledger.specs.Ledger.{Ledger, inBounds}
+use Rattle.ledger.specs.Posting.{Near, Postable}
+use Rattle.month.specs.declared.Month.{Month}
+use Rattle.month.specs.Questions.{rowNumber, rowsNumber}
+use Rattle.month.proofs.Accepted.{rows-standing}
+use Rattle.month.proofs.Asked.{Inputs}
+
+-- a row's figures in limits (7 and 8)
+record Limited (p : Plant) : Type 0 where
+  guarantee : p .guarantee ≤ 10 ^ 12
+  loss : p .loss ≤ 1000000
+  availability : p .availability ≤ 1000000
+
+rows-limited : (s n : ℕ) (ps : List Plant) → rowsNumber s n ps ≡ 0 → (i : ℕ) (d : Plant) → i < length ps → Limited (getD ps i d)
+unfolding rowsNumber rowNumber
+rows-limited s n [] e i d h = absurd (not-suc-le-zero h)
+rows-limited s n (p ∷ ps) e zero d h =
+    let q₇ = asked _ _ _ tt (asked _ _ _ tt (asked _ _ _ tt (then-zero _ _ e .0) .1) .1) in
+    let q₈ = both _ _ (asked _ _ [] tt (q₇ .1) .0) in
+    record { guarantee = leb-true _ _ (q₇ .0); loss = leb-true _ _ (q₈ .0); availability = leb-true _ _ (q₈ .1) }
+rows-limited s n (p ∷ ps) e (suc i) d h = rows-limited (p .submarket) (p .number) ps (then-zero _ _ e .1) i d (le-of-suc-le-suc h)
+
+within-rows : (l : List ℕ) (b : ℕ) → ((i : ℕ) → i < length l → l ! i ≤ b) → (i : ℕ) → l ! i ≤ b
+within-rows [] b h i = zero-le
+within-rows (x ∷ xs) b h zero = h 0 (omega arith)
+within-rows (x ∷ xs) b h (suc i) = within-rows xs b (λ j k. h (suc j) (omega arith)) i
+
+-- the columns of accepted rows
+module _ (ss ns gs ls vs : List ℕ) (same : Equal (length ss) ns gs ls vs) (e : rowsNumber 0 0 (plantsOf ss ns gs ls vs) ≡ 0) where
+  standing : Standing 0 ss
+  standing = subst (λ l. Standing 0 l) (plants-submarkets ss ns gs ls vs) (rows-standing 0 0 (plantsOf ss ns gs ls vs) e)
+
+  limited : (i : ℕ) → i < length ss → Limited (plant (ss ! i) (ns ! i) (gs ! i) (ls ! i) (vs ! i))
+  limited i h =
+      let d : Plant = plant 0 0 0 0 0 in
+      subst Limited (plant-at i ss ns gs ls vs d h) (rows-limited 0 0 (plantsOf ss ns gs ls vs) e i d (let l = length-plants ss ns gs ls vs in omega arith))
+
+  guarantees-within : Within gs (10 ^ 12)
+  guarantees-within = record { at = within-rows gs (10 ^ 12) (λ i h. limited i (omega (arith, same .guarantees)) .guarantee) }
+
+  losses-within : Within ls 1000000
+  losses-within = record { at = within-rows ls 1000000 (λ i h. limited i (omega (arith, same .losses)) .loss) }
+
+  availabilities-within : Within vs 1000000
+  availabilities-within = record { at = within-rows vs 1000000 (λ i h. limited i (omega (arith, same .availabilities)) .availability) }
+
+module _ (m : Month) (ss ns gs ls vs profile metered : List ℕ) (lent : ℕ) (l : Ledger) (same : Equal (length ss) ns gs ls vs)
+    (q : Inputs m (plantsOf ss ns gs ls vs) profile metered lent l) where
+  rows : length ss ≡ m .plants
+  rows = sym (length-plants ss ns gs ls vs) ∙ q .own .rows
+
+  -- with lists for the figures and the nets of the right length
+  pub workable : (figures : List ℕ) (lentNets : List ℤ) → length figures ≡ lent → length lentNets ≡ length ss
+      → Workable ss ns gs ls vs profile (m .due) metered figures lentNets
+  workable figures lentNets f n =
+      let r = rows in
+      let s = q .own .sizes in
+      let t = q .meter in
+      record {
+        some = omega arith;
+        rows = omega arith;
+        equal = same;
+        standing = standing ss ns gs ls vs same (q .tables .rows);
+        guarantees = guarantees-within ss ns gs ls vs same (q .tables .rows);
+        losses = losses-within ss ns gs ls vs same (q .tables .rows);
+        availabilities = availabilities-within ss ns gs ls vs same (q .tables .rows);
+        hourly = record { at = at-most-at profile (2 * 10 ^ 9) (q .tables .figures) };
+        periods = omega (arith, q .own .figures);
+        whole = q .tables .some;
+        begun = t .begun;
+        due = omega (arith, q .own .figures);
+        meters = t .meters ∙ sym r;
+        generation = omega (arith, t .generation, at-most-at profile (2 * 10 ^ 9) (q .tables .figures) (m .due - 1));
+        figures = omega arith;
+        netRows = n;
+      }
+
+  abbrev h : Hour
+  h = hourOf (plantsOf ss ns gs ls vs) profile metered (m .due)
+
+  -- no figure of the hour is above the generation, no net above twice that
+  module _ {figures : List ℕ} {lentNets : List ℤ} (w : Workable ss ns gs ls vs profile (m .due) metered figures lentNets) where
+    ok : Sound h
+    ok = sound w
+
+    allotment-within : Within (allotment h) (2 * 10 ^ 9)
+    unfolding hourOf
+    allotment-within =
+        record {
+          at = λ j.
+              let g = w .generation in
+              let a = figure-le h ok (j % 4 + 1) (omega arith) (omega arith) (j / 4) in
+              let place : j % 4 + 1 - 1 + j / 4 * 4 ≡ j = omega arith in
+              let e = ap (λ (k : ℕ). allotment h ! k) place in
+              let f = allotment-at h ok (j % 4 + 1) (omega arith) (omega arith) (j / 4) in
+              omega arith;
+        }
+
+    nets-near : Near (nets h) (4 * 10 ^ 9)
+    unfolding hourOf
+    nets-near =
+        record {
+          at = λ i.
+              let g = w .generation in
+              let a = at-le-sum metered i in
+              let b = share-le h ok i in
+              let e = ap natAbs (at-nets h ok i) in
+              let f = net-abs (metered ! i) (covered h ! i) (rights h ! i) in
+              omega arith;
+        }
+
+    nets-sized : length (nets h) ≡ length ss
+    unfolding nets hourOf
+    nets-sized =
+        length-rowwise subℕ 0 0 metered (covered h ⊕ rights h)
+        ∙ (let a = whole-sized h ok in let b = w .meters in let c = length-plants ss ns gs ls vs in omega arith)
+
+    pub postable : inBounds l ≡ true → Postable l (allotment h) (nets h) (m .tariff)
+    unfolding hourOf
+    postable inside =
+        let r = rows in
+        let t = q .tables .lengths in
+        record {
+          inside = inside;
+          figures = let a = allotment-sized h ok in let b = length-plants ss ns gs ls vs in omega (arith, t .allotted);
+          rows = let a = nets-sized in omega (arith, t .accounts);
+          allotmentSmall = allotment-within;
+          netsSmall = nets-near;
+          tariffSmall = q .own .sizes .tariff;
+        }

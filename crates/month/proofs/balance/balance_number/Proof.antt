@@ -1,0 +1,21 @@
+-- `balance::balance_number` meets its contract: each return is the first no, by the tests that led to it. Assumes nothing.
+use borrow.Author.Needs.{needs}
+use Rattle.lists.proofs.Questions.{asks}
+use Rattle.month.specs.Questions.{balanceNumber}
+use Rattle.month.proofs.balance.balance_number.Statement.{statement}
+use Rattle.month.proofs.balance.balance_number.Tie as tie
+
+pub balance-number-spec : {M : Type 1} → statement M
+unfolding balanceNumber
+balance-number-spec =
+    tie.close
+    (tie.spec
+    (λ c κs. search needs)  -- is-blank-requires
+    (λ c. search asks depth 9)
+    (λ c. search asks depth 9)
+    (λ c. search asks depth 9)
+    (λ c κs. search needs)  -- lengths-number-requires
+    (λ c. search asks depth 9)
+    (λ c κs. search needs)  -- in-bounds-requires
+    (λ c. search asks depth 9)
+    (λ c. search asks depth 9))

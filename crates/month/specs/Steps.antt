@@ -1,0 +1,18 @@
+-- Parts of settle that its inner functions answer. Assumes nothing.
+use Prim.Native.Nat.{ℕ}
+use mathlib.Core.List.{List, [], _∷_}
+use lib.ListN.{length}
+use Rattle.lists.specs.Questions.{part, firstNo}
+use Rattle.hour.specs.declared.Plant.{Plant}
+use Rattle.ledger.specs.Ledger.{Ledger}
+use Rattle.month.specs.declared.Month.{Month}
+use Rattle.month.specs.Questions.{ownNumber, tablesNumber, meteredNumber}
+
+-- 12 to 18: what settle asks before it works the hour, with `lent` figures in the allotment list
+unfoldable pub inputsNumber : Month → List Plant → List ℕ → List ℕ → ℕ → Ledger → ℕ
+inputsNumber m plants profile metered lent l =
+    firstNo
+    (part (ownNumber m (length plants) (length profile))
+    ∷ part (tablesNumber (m .plants) plants profile l)
+    ∷ part (meteredNumber m profile metered lent)
+    ∷ [])

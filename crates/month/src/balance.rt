@@ -1,0 +1,61 @@
+// Balance (document 01, 'Calls').
+use crate::Balanced;
+use crate::Month;
+use crate::questions::is_blank;
+use crate::questions::lengths_number;
+ghost use mathlib.Core.Path.{_≡_};
+ghost use Rattle.month.specs.Questions.{balanceNumber};
+ghost use Rattle.month.specs.Calls.{balanceCall};
+
+// 21, then 2 and 11 by the month's own P, and 19 for the ledger at hand.
+pub fn balance_number(month: Month, allotted: &[u64], accounts: &[i64]) -> u64
+    ensures { λ r. ⌜ r ≡ balanceNumber month (record { allotted = now (allotted .entry); accounts = now (accounts .entry) }) ⌝ }
+{
+    let stage = month.stage;
+    if is_blank(stage) {
+        return 21;
+    }
+    if month.plants < 1 {
+        return 2;
+    }
+    if 512 < month.plants {
+        return 2;
+    }
+    let no = lengths_number(month.plants, allotted, accounts);
+    if no != 0 {
+        return no;
+    }
+    if !ledger::in_bounds(allotted, accounts) {
+        return 19;
+    }
+    0
+}
+
+impl Month {
+    // Balance answers the four column sums, the sum of nets and the sum of money.
+    pub fn balance(mut self, allotted: &[u64], accounts: &[i64]) -> Balanced
+        ensures { λ r. ⌜ r ≡ balanceCall self (record { allotted = now (allotted .entry); accounts = now (accounts .entry) }) ⌝ }
+    {
+        let number = balance_number(self, allotted, accounts);
+        if number != 0 {
+            let columns = [0u64; 4];
+            return Balanced {
+                number,
+                month: self,
+                columns,
+                net: 0,
+                money: 0,
+            };
+        }
+        let columns = ledger::column_sums(allotted);
+        let net = ledger::net_sum(accounts);
+        let money = ledger::money_sum(accounts);
+        Balanced {
+            number: 0,
+            month: self,
+            columns,
+            net,
+            money,
+        }
+    }
+}

@@ -1,0 +1,61 @@
+// Close (document 01, 'Calls').
+use crate::Ended;
+use crate::Month;
+use crate::Stage;
+use crate::questions::is_open;
+ghost use mathlib.Core.Path.{_≡_};
+ghost use Rattle.month.specs.Questions.{closeNumber};
+ghost use Rattle.month.specs.Calls.{closeCall};
+
+// 12, 3 for the month's own H, and 20.
+pub fn close_number(month: Month) -> u64
+    ensures { λ r. ⌜ r ≡ closeNumber month ⌝ }
+{
+    let stage = month.stage;
+    if !is_open(stage) {
+        return 12;
+    }
+    if month.periods < 1 {
+        return 3;
+    }
+    if 744 < month.periods {
+        return 3;
+    }
+    if month.due != month.periods + 1 {
+        return 20;
+    }
+    0
+}
+
+impl Month {
+    // The month at another stage.
+    fn at_stage(self, stage: Stage) -> Month
+        ensures { λ r. ⌜ r ≡ record { stage = stage; plants = self .plants; periods = self .periods; tariff = self .tariff; due = self .due } ⌝ }
+    {
+        Month {
+            stage,
+            plants: self.plants,
+            periods: self.periods,
+            tariff: self.tariff,
+            due: self.due,
+        }
+    }
+
+    // Close ends the month.
+    pub fn close(mut self) -> Ended
+        ensures { λ r. ⌜ r ≡ closeCall self ⌝ }
+    {
+        let number = close_number(self);
+        if number != 0 {
+            return Ended {
+                number,
+                month: self,
+            };
+        }
+        self = self.at_stage(Stage::Closed);
+        Ended {
+            number: 0,
+            month: self,
+        }
+    }
+}

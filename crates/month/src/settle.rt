@@ -1,0 +1,142 @@
+// Settle (document 01, 'Calls').
+use crate::Month;
+use crate::Settled;
+use crate::questions::MOST;
+use crate::questions::is_open;
+use crate::questions::sizes_number;
+use crate::questions::tables_number;
+use crate::questions::total;
+ghost use mathlib.Core.Path.{_≡_};
+ghost use mathlib.Core.Bool.{true};
+ghost use Prim.Native.Nat.{_≤_};
+ghost use lib.ListN.{length};
+ghost use Rattle.hour.specs.Table.{plantsOf, Equal};
+ghost use Rattle.sharing.specs.Calls.{noTable};
+ghost use Rattle.ledger.specs.Ledger.{inBounds, added};
+ghost use Rattle.ledger.specs.Posting.{Postable, hourFigures};
+ghost use Rattle.month.specs.Questions.{ownNumber, meteredNumber, boundsNumber};
+ghost use Rattle.month.specs.Steps.{inputsNumber};
+
+// 12, then 2 to 4 for the month's own P, H and TEO, and 13 of the rows and the profile figures lent.
+pub fn own_number(month: Month, rows: u64, figures: u64) -> u64
+    ensures { λ r. ⌜ r ≡ ownNumber month rows figures ⌝ }
+{
+    let stage = month.stage;
+    if !is_open(stage) {
+        return 12;
+    }
+    let no = sizes_number(month.plants, month.periods, month.tariff);
+    if no != 0 {
+        return no;
+    }
+    if rows != month.plants {
+        return 13;
+    }
+    if figures != month.periods {
+        return 13;
+    }
+    0
+}
+
+// 14 to 18, with `lent` figures in the allotment list, of a month whose P is in limits and whose profile has H figures.
+pub fn metered_number(month: Month, profile: &[u64], metered: &[u64], lent: u64) -> u64
+    requires { ⌜ (month .plants ≤ 512) × (length (now profile) ≡ month .periods) ⌝ }
+    ensures { λ r. ⌜ r ≡ meteredNumber month (now (profile .entry)) (now (metered .entry)) lent ⌝ }
+{
+    if month.due < 1 {
+        return 14;
+    }
+    if month.periods < month.due {
+        return 14;
+    }
+    if metered.len() as u64 != month.plants {
+        return 15;
+    }
+    if !lists::at_most(MOST, metered) {
+        return 16;
+    }
+    let at = month.due as usize - 1;
+    if total(metered) != profile[at] {
+        return 17;
+    }
+    if lent != 4 * month.plants {
+        return 18;
+    }
+    0
+}
+
+// 12 to 18: all that settle asks before it works the hour.
+pub fn inputs_number(
+    month: Month,
+    submarket: &[u64],
+    number: &[u64],
+    guarantee: &[u64],
+    loss: &[u64],
+    availability: &[u64],
+    profile: &[u64],
+    metered: &[u64],
+    lent: u64,
+    allotted: &[u64],
+    accounts: &[i64],
+) -> u64
+    requires { ⌜ Equal (length (now submarket)) (now number) (now guarantee) (now loss) (now availability) ⌝ }
+    ensures { λ r. ⌜ r ≡ inputsNumber month (plantsOf (now (submarket .entry)) (now (number .entry)) (now (guarantee .entry)) (now (loss .entry)) (now (availability .entry))) (now (profile .entry)) (now (metered .entry)) lent (record { allotted = now (allotted .entry); accounts = now (accounts .entry) }) ⌝ }
+{
+    let no = own_number(month, submarket.len() as u64, profile.len() as u64);
+    if no != 0 {
+        return no;
+    }
+    let no = tables_number(
+        month.plants,
+        submarket,
+        number,
+        guarantee,
+        loss,
+        availability,
+        profile,
+        allotted,
+        accounts,
+    );
+    if no != 0 {
+        return no;
+    }
+    metered_number(month, profile, metered, lent)
+}
+
+// 19 of the ledger as it is and as it would be with the hour's figures and nets added. Nothing is written.
+pub fn bounds_number(
+    allotted: &[u64],
+    accounts: &[i64],
+    figures: &[u64],
+    nets: &[i64],
+    tariff: u64,
+) -> u64
+    requires { ⌜ (inBounds (record { allotted = now allotted; accounts = now accounts }) ≡ true → Postable (record { allotted = now allotted; accounts = now accounts }) (now figures) (now nets) tariff) ⌝ }
+    ensures { λ r. ⌜ r ≡ boundsNumber (record { allotted = now (allotted .entry); accounts = now (accounts .entry) }) (added (record { allotted = now (allotted .entry); accounts = now (accounts .entry) }) (hourFigures (now (figures .entry)) (now (nets .entry)) tariff)) ⌝ }
+{
+    if !ledger::in_bounds(allotted, accounts) {
+        return 19;
+    }
+    if !ledger::in_bounds_after(allotted, accounts, figures, nets, tariff) {
+        return 19;
+    }
+    0
+}
+
+impl Month {
+    // A refused settle: zeros beside the number, and the month as it came.
+    fn unsettled(self, number: u64) -> Settled
+        ensures { λ r. ⌜ r ≡ record { number = number; month = self; secondary = 0; guarantees = 0; «cover_table» = record { rows = noTable }; «secondary_table» = record { rows = noTable } } ⌝ }
+    {
+        let cover_table = sharing::table_of([[0u64; 4]; 4]);
+        let secondary_table = sharing::table_of([[0u64; 4]; 4]);
+        Settled {
+            number,
+            month: self,
+            secondary: 0,
+            guarantees: 0,
+            cover_table,
+            secondary_table,
+        }
+    }
+}

@@ -1,0 +1,153 @@
+-- What document 01's limits make of the statement's figures: sums that fit, and how long a statement can be. Assumes nothing.
+use mathlib.Core.Path.{_≡_, refl, sym, ap, subst, _∙_}
+use mathlib.Core.Bool.{true}
+use mathlib.Core.List.{List, [], _∷_, map}
+use Prim.Native.Nat.{ℕ, zero, suc, _+_, _-_, _*_, _^_, _≤_, _<_}
+use native.Mathlib.Nat.{mul-le-mul-right, suc-mul, add-zero}
+use native.Mathlib.Omega.{arith}
+use lib.IntN.{ℤ, pos, negsuc, natAbs}
+use lib.ListN.{length, take, drop, getD, length-take}
+use lib.Seq.{getD-take, getD-drop}
+use Rattle.lists.specs.Lists.{sum, Within}
+use Rattle.lists.specs.Columns.{four, column}
+use Rattle.lists.proofs.Strides.{column-within}
+use Rattle.lines.specs.Figures.{figure, minus, signedFigure, figureLength, signedFigureLength}
+use Rattle.lines.proofs.Decimal.{length-le, length-le-20, length-small}
+use Rattle.hour.specs.declared.Plant.{Plant}
+use Rattle.hour.specs.Table.{plantsOf}
+use Rattle.hour.proofs.Table.{length-plants}
+use Rattle.ledger.specs.Ledger.{Ledger, allottedIn, inBounds}
+use Rattle.ledger.proofs.Bounds.{Bounded, bounded}
+use Rattle.statement.specs.Statement.{statementText, roomFor}
+use Rattle.statement.specs.Lengths.{fieldsLength, leadingLength, plantLineLength, plantLinesLength, totalLineLength, statementLength}
+use Rattle.statement.specs.Writing.{Stateable}
+use Rattle.statement.specs.Laws.{InLimits, Promised}
+use Rattle.statement.proofs.Text.{length-statement, text-columns}
+
+-- ---- sums
+
+-- the sum of a column of at most 2,048 figures
+column-low : (j : ℕ) (xs : List ℕ) → Within xs (1488 * 10 ^ 9) → length xs ≤ 2048 → sum (column 4 j xs) ≤ 2048 * (1488 * 10 ^ 9)
+column-low j xs h k = omega (arith, column-within 4 j xs (1488 * 10 ^ 9) h, mul-le-mul-right (1488 * 10 ^ 9) k)
+
+module _ (l : Ledger) (e : inBounds l ≡ true) (k : length (l .allotted) ≤ 2048) where
+  pub columns-low : Within (four (λ s. sum (allottedIn s l))) (2048 * (1488 * 10 ^ 9))
+  columns-low = record { at = low }
+    where
+      one : (j : ℕ) → sum (column 4 j (l .allotted)) ≤ 2048 * (1488 * 10 ^ 9)
+      one j = column-low j (l .allotted) (bounded l e .allotted) k
+
+      low : (i : ℕ) → getD (four (λ s. sum (allottedIn s l))) i 0 ≤ 2048 * (1488 * 10 ^ 9)
+      low zero = one 0
+      low (suc zero) = one 1
+      low (suc (suc zero)) = one 2
+      low (suc (suc (suc zero))) = one 3
+      low (suc (suc (suc (suc i)))) = omega arith
+
+  -- the sum of the four column sums
+  pub sum-low : sum (four (λ s. sum (allottedIn s l))) ≤ 8192 * (1488 * 10 ^ 9)
+  unfolding sum
+  sum-low =
+      let a = columns-low .at 0 in let b = columns-low .at 1 in let c = columns-low .at 2 in let d = columns-low .at 3 in
+      omega arith
+
+-- what `ledger::column_sums` asks, and that the sum of its answer fits
+module _ {ss ns : List ℕ} {l : Ledger} (ok : Stateable ss ns l) where
+  pub sums-asked : (length (l .allotted) ≤ 2048) × Within (l .allotted) (1488 * 10 ^ 9)
+  sums-asked = (omega (arith, ok .few, ok .even .figures), bounded l (ok .bounded) .allotted)
+
+  pub sums-fit : {sums : List ℕ} → sums ≡ four (λ s. sum (allottedIn s l)) → sum sums < 2 ^ 64
+  sums-fit e = rw e (omega (arith, sum-low l (ok .bounded) (sums-asked .0)))
+
+-- ---- lengths
+
+-- a signed figure takes one byte more at most
+signed-le : (z : ℤ) → signedFigureLength z ≤ 1 + figureLength (natAbs z)
+unfolding signedFigureLength signedFigure minus figureLength
+signed-le (pos n) = omega arith
+signed-le (negsuc n) = omega arith
+
+-- that of an `i64` takes at most 21 bytes
+pub signed-le-21 : (z : ℤ) → natAbs z ≤ 2 ^ 63 → signedFigureLength z ≤ 21
+signed-le-21 z h = omega (arith, signed-le z, length-le-20 (natAbs z) (omega arith))
+
+-- figures of at most d digits
+fields-le : (d : ℕ) (xs : List ℕ) → ((i : ℕ) → figureLength (getD xs i 0) ≤ d) → fieldsLength xs ≤ length xs * (d + 1)
+unfolding fieldsLength
+fields-le d [] h = omega arith
+fields-le d (x ∷ xs) h = omega (arith, h 0, fields-le d xs (λ i. h (suc i)), suc-mul (length xs) (d + 1))
+
+-- an A line takes at most 101 bytes
+module _ (p : Plant) (figures : List ℕ) (net money : ℤ) where
+  plant-line-low : p .submarket ≤ 4 → p .number ≤ 999999 → length figures ≤ 4 → Within figures (1488 * 10 ^ 9) → natAbs net ≤ 1488 * 10 ^ 9
+      → natAbs money ≤ 1488 * 10 ^ 13 → plantLineLength p figures net money ≤ 101
+  unfolding plantLineLength leadingLength fieldsLength
+  plant-line-low s n k w a b =
+      omega (arith, length-small (p .submarket) (omega arith), length-le 5 (p .number) (omega arith), fields-le 13 figures (λ i. length-le 12 (getD figures i 0) (omega (arith, w .at i))), signed-le net, length-le 12 (natAbs net) (omega arith), signed-le money, length-le 16 (natAbs money) (omega arith))
+
+-- the first four figures of those that are left
+first-four : (al : List ℕ) (b : ℕ) → Within al b → Within (take 4 al) b
+first-four al b h = record { at = low al (h .at) 4 }
+  where
+    low : (xs : List ℕ) → ((i : ℕ) → getD xs i 0 ≤ b) → (n i : ℕ) → getD (take n xs) i 0 ≤ b
+    low xs h zero i = omega arith
+    low [] h (suc n) i = omega arith
+    low (x ∷ xs) h (suc n) zero = h 0
+    low (x ∷ xs) h (suc n) (suc i) = low xs (λ j. h (suc j)) n i
+
+-- the nets and the money of rows that are left
+abbrev Rows : ℕ → ℕ → List ℤ → Type 0
+Rows j b ac = (i : ℕ) → natAbs (getD ac (2 * i + j) (pos 0)) ≤ b
+
+rows-less : (j b : ℕ) (ac : List ℤ) → Rows j b ac → Rows j b (drop 2 ac)
+rows-less j b ac h i =
+    let next : 2 + (2 * i + j) ≡ 2 * suc i + j = omega arith in
+    subst (λ (z : ℤ). natAbs z ≤ b) (sym (getD-drop 2 ac (2 * i + j) (pos 0) ∙ ap (λ (k : ℕ). getD ac k (pos 0)) next)) (h (suc i))
+
+-- the A lines take at most 101 bytes each
+plant-lines-low : (ps : List Plant) (al : List ℕ) (ac : List ℤ) → Within (map (λ (p : Plant). p .submarket) ps) 4 → Within (map (λ (p : Plant). p .number) ps) 999999
+    → Within al (1488 * 10 ^ 9) → Rows 0 (1488 * 10 ^ 9) ac → Rows 1 (1488 * 10 ^ 13) ac → plantLinesLength ps al ac ≤ 101 * length ps
+unfolding plantLinesLength
+plant-lines-low [] al ac s n w a b = omega arith
+plant-lines-low (p ∷ ps) al ac s n w a b =
+    omega (arith, plant-line-low p (take 4 al) (getD ac 0 (pos 0)) (getD ac 1 (pos 0)) (s .at 0) (n .at 0) (simp length-take (omega arith)) (first-four al (1488 * 10 ^ 9) w) (a 0) (b 0), plant-lines-low ps (drop 4 al) (drop 2 ac) (record { at = λ i. s .at (suc i) }) (record { at = λ i. n .at (suc i) }) (record { at = λ i. subst (λ (x : ℕ). x ≤ 1488 * 10 ^ 9) (sym (getD-drop 4 al i 0)) (w .at (4 + i)) }) (rows-less 0 (1488 * 10 ^ 9) ac a) (rows-less 1 (1488 * 10 ^ 13) ac b))
+
+-- the T line takes at most 96 bytes
+total-line-low : (settled plants : ℕ) (columns : List ℕ) → settled ≤ 744 → plants ≤ 512 → length columns ≤ 4 → Within columns (2048 * (1488 * 10 ^ 9)) → sum columns ≤ 8192 * (1488 * 10 ^ 9)
+    → totalLineLength settled plants columns ≤ 96
+unfolding totalLineLength leadingLength fieldsLength
+total-line-low settled plants columns h p k w t =
+    omega (arith, length-le 2 settled (omega arith), length-le 2 plants (omega arith), fields-le 16 columns (λ i. length-le 15 (getD columns i 0) (omega (arith, w .at i))), length-le 16 (sum columns) (omega arith))
+
+-- a statement within limits takes at most 128P + 128 bytes
+pub length-low : (settled : ℕ) (plants : List Plant) (l : Ledger) → InLimits settled plants l → statementLength settled plants l ≤ roomFor (length plants)
+unfolding statementLength roomFor
+length-low settled plants l ok =
+    let b = bounded l (ok .bounded) in
+    let short : length (l .allotted) ≤ 2048 = omega (arith, ok .figures, ok .few) in
+    let rows : Rows 0 (1488 * 10 ^ 9) (l .accounts) = λ i. subst (λ (k : ℕ). natAbs (getD (l .accounts) k (pos 0)) ≤ 1488 * 10 ^ 9) (sym (add-zero (2 * i))) (b .net i) in
+    omega (arith, plant-lines-low plants (l .allotted) (l .accounts) (ok .submarkets) (ok .numbers) (b .allotted) rows (b .money), total-line-low settled (length plants) (four (λ s. sum (allottedIn s l))) (ok .periods) (ok .few) (omega arith) (columns-low l (ok .bounded) short) (sum-low l (ok .bounded) short))
+
+pub promised : Promised
+promised =
+    record {
+      fits = λ settled plants l ok. subst (λ (n : ℕ). n ≤ roomFor (length plants)) (sym (length-statement settled plants l)) (length-low settled plants l ok);
+      sized = length-statement;
+      columns = text-columns;
+    }
+
+-- what `write_statement` asks, of a table of five columns within limits
+pub callable : (settled : ℕ) (ss ns gs ls vs : List ℕ) (l : Ledger) → length ns ≡ length ss → InLimits settled (plantsOf ss ns gs ls vs) l
+    → Stateable ss ns l × (statementLength settled (plantsOf ss ns [] [] []) l ≤ roomFor (length ss))
+callable settled ss ns gs ls vs l e ok =
+    let rows : length (plantsOf ss ns gs ls vs) ≡ length ss = length-plants ss ns gs ls vs in
+    let same : statementLength settled (plantsOf ss ns gs ls vs) l ≡ statementLength settled (plantsOf ss ns [] [] []) l =
+    sym (length-statement settled (plantsOf ss ns gs ls vs) l) ∙ ap length (text-columns settled ss ns gs ls vs l)
+    ∙ length-statement settled (plantsOf ss ns [] [] []) l in (
+      record {
+        even = record { numbers = e; figures = ok .figures ∙ ap (λ (n : ℕ). 4 * n) rows; nets = ok .nets ∙ ap (λ (n : ℕ). 2 * n) rows };
+        few = omega (arith, ok .few);
+        bounded = ok .bounded;
+      },
+      omega (arith, length-low settled (plantsOf ss ns gs ls vs) l ok, ap roomFor rows),
+    )

@@ -1,0 +1,175 @@
+-- Laws of the statement's text: its lines field by field, and how long they are. Assumes nothing.
+use mathlib.Core.Path.{_≡_, refl, sym, ap, ap₂, _∙_}
+use mathlib.Core.List.{List, [], _∷_, _++_, map, append-assoc}
+use Prim.Native.Nat.{ℕ, zero, suc, _+_, _-_, _*_, _≤_, _<_}
+use native.Mathlib.Nat.{add-zero}
+use native.Mathlib.Numerals.{add-one}
+use native.Mathlib.Omega.{arith}
+use lib.IntN.{ℤ, pos}
+use lib.ListN.{length, take, drop, getD, length-append, drop-of-length-le}
+use lib.Seq.{drop-drop, getD-drop}
+use Rattle.lists.specs.Lists.{sum}
+use Rattle.lists.specs.Columns.{four}
+use Rattle.lists.proofs.Loops.{rest-more, rest-none}
+use Rattle.lines.specs.Figures.{figure, signedFigure, figureLength, signedFigureLength}
+use Rattle.hour.specs.declared.Plant.{Plant}
+use Rattle.hour.specs.Table.{plantsOf}
+use Rattle.hour.proofs.Table.{length-plants, row-at}
+use Rattle.ledger.specs.Ledger.{Ledger, allottedIn}
+use Rattle.statement.specs.Statement.{line, plantLine, plantLines, totalLine, statementText}
+use Rattle.statement.specs.Writing.{field, fieldsText, leading, shown, rowLine}
+use Rattle.statement.specs.Lengths.{fieldsLength, leadingLength, plantLineLength, plantLinesLength, totalLineLength, statementLength}
+
+-- ---- lines, field by field
+
+module _ (g : List ℕ) (gs : List (List ℕ)) where
+  -- a field that figures or other fields follow
+  next : (f : List ℕ) (xs : List ℕ) → line (f ∷ (map figure xs ++ (g ∷ gs))) ≡ field f 44 ++ line (map figure xs ++ (g ∷ gs))
+  unfolding line field
+  next f [] = sym (append-assoc f (44 ∷ []) (line (g ∷ gs)))
+  next f (x ∷ xs) = sym (append-assoc f (44 ∷ []) (line (figure x ∷ (map figure xs ++ (g ∷ gs)))))
+
+  -- figures that other fields follow
+  figures-next : (xs : List ℕ) → line (map figure xs ++ (g ∷ gs)) ≡ fieldsText xs ++ line (g ∷ gs)
+  unfolding fieldsText
+  figures-next [] = refl
+  figures-next (x ∷ xs) =
+      next (figure x) xs ∙ ap (λ (l : List ℕ). field (figure x) 44 ++ l) (figures-next xs)
+      ∙ sym (append-assoc (field (figure x) 44) (fieldsText xs) (line (g ∷ gs)))
+
+  -- the letter and the figures that other fields follow
+  leading-next : (letter x y : ℕ) (xs : List ℕ) → line ((letter ∷ []) ∷ figure x ∷ figure y ∷ (map figure xs ++ (g ∷ gs))) ≡ leading letter x y xs ++ line (g ∷ gs)
+  unfolding leading field
+  leading-next letter x y xs = next (letter ∷ []) (x ∷ y ∷ xs) ∙ ap (λ (l : List ℕ). letter ∷ 44 ∷ l) (figures-next (x ∷ y ∷ xs))
+
+-- the fields of the figures from i on
+pub fields-more : (xs : List ℕ) (i : ℕ) → i < length xs → fieldsText (drop i xs) ≡ field (figure (getD xs i 0)) 44 ++ fieldsText (drop (i + 1) xs)
+unfolding fieldsText
+fields-more xs i h = rest-more fieldsText xs i 0 h
+
+pub fields-none : (xs : List ℕ) (i : ℕ) → length xs ≤ i → fieldsText (drop i xs) ≡ []
+unfolding fieldsText
+fields-none xs i h = rest-none fieldsText xs i h
+
+pub fields-length-more : (xs : List ℕ) (i : ℕ) → i < length xs → fieldsLength (drop i xs) ≡ figureLength (getD xs i 0) + 1 + fieldsLength (drop (i + 1) xs)
+unfolding fieldsLength
+fields-length-more xs i h = rest-more fieldsLength xs i 0 h
+
+pub fields-length-none : (xs : List ℕ) (i : ℕ) → length xs ≤ i → fieldsLength (drop i xs) ≡ 0
+unfolding fieldsLength
+fields-length-none xs i h = rest-none fieldsLength xs i h
+
+-- the parts of an A line, and of the T line
+pub plant-line-is : (p : Plant) (figures : List ℕ) (net money : ℤ)
+    → plantLine p figures net money ≡ leading 65 (p .submarket) (p .number) figures ++ (field (signedFigure net) 44 ++ field (signedFigure money) 10)
+unfolding plantLine line field
+plant-line-is p figures net money =
+    leading-next (signedFigure net) (signedFigure money ∷ []) 65 (p .submarket) (p .number) figures
+    ∙ ap (λ (l : List ℕ). leading 65 (p .submarket) (p .number) figures ++ l) (next (signedFigure money) [] (signedFigure net) [])
+
+pub total-line-is : (settled plants : ℕ) (columns : List ℕ)
+    → totalLine settled plants columns ≡ leading 84 settled plants columns ++ field (figure (sum columns)) 10
+unfolding totalLine line field
+total-line-is settled plants columns = leading-next (figure (sum columns)) [] 84 settled plants columns
+
+-- ---- the A lines, row by row
+
+module _ (ss ns al : List ℕ) (ac : List ℤ) where
+  -- the lines of the rows from i on
+  pub linesFrom : ℕ → List ℕ
+  linesFrom i = plantLines (drop i (plantsOf ss ns [] [] [])) (drop (4 * i) al) (drop (2 * i) ac)
+
+  pub lines-all : plantLines (plantsOf ss ns [] [] []) al ac ≡ linesFrom 0
+  unfolding linesFrom
+  lines-all = refl
+
+  pub lines-more : (i : ℕ) → i < length ss → linesFrom i ≡ rowLine ss ns al ac i ++ linesFrom (i + 1)
+  unfolding linesFrom rowLine plantLines
+  lines-more i h =
+      let ps : List Plant = plantsOf ss ns [] [] [] in
+      let four : 4 * i + 4 ≡ 4 * (i + 1) = omega arith in
+      let two : 2 * i + 2 ≡ 2 * (i + 1) = omega arith in
+      ap (λ (q : List Plant). plantLines q (drop (4 * i) al) (drop (2 * i) ac)) (row-at i ss ns [] [] [] h)
+      ∙ ap₂ _++_
+      (ap₂ (plantLine (shown (getD ss i 0) (getD ns i 0)) (take 4 (drop (4 * i) al)))
+      (getD-drop (2 * i) ac 0 (pos 0) ∙ ap (λ (n : ℕ). getD ac n (pos 0)) (add-zero (2 * i))) (getD-drop (2 * i) ac 1 (pos 0)))
+      (ap (λ (n : ℕ). plantLines (drop n ps) (drop 4 (drop (4 * i) al)) (drop 2 (drop (2 * i) ac))) (sym (add-one i))
+      ∙ ap₂ (plantLines (drop (i + 1) ps)) (drop-drop 4 (4 * i) al ∙ ap (λ (n : ℕ). drop n al) four) (drop-drop 2 (2 * i) ac ∙ ap (λ (n : ℕ). drop n ac) two))
+
+  pub lines-none : (i : ℕ) → length ss ≤ i → linesFrom i ≡ []
+  unfolding linesFrom plantLines
+  lines-none i h =
+      let past : length (plantsOf ss ns [] [] []) ≤ i = omega (arith, length-plants ss ns [] [] []) in
+      ap (λ (ps : List Plant). plantLines ps (drop (4 * i) al) (drop (2 * i) ac)) (drop-of-length-le (plantsOf ss ns [] [] []) past)
+
+-- only submarkets and numbers are shown
+lines-columns : (ss ns gs ls vs al : List ℕ) (ac : List ℤ) → plantLines (plantsOf ss ns gs ls vs) al ac ≡ plantLines (plantsOf ss ns [] [] []) al ac
+unfolding plantLines plantLine plantsOf
+lines-columns [] ns gs ls vs al ac = refl
+lines-columns (s ∷ ss) ns gs ls vs al ac =
+    ap (λ (l : List ℕ). plantLine (shown s (getD ns 0 0)) (take 4 al) (getD ac 0 (pos 0)) (getD ac 1 (pos 0)) ++ l)
+    (lines-columns ss (drop 1 ns) (drop 1 gs) (drop 1 ls) (drop 1 vs) (drop 4 al) (drop 2 ac))
+
+pub text-columns : (settled : ℕ) (ss ns gs ls vs : List ℕ) (l : Ledger) → statementText settled (plantsOf ss ns gs ls vs) l ≡ statementText settled (plantsOf ss ns [] [] []) l
+unfolding statementText
+text-columns settled ss ns gs ls vs l =
+    ap₂ (λ (a : List ℕ) (n : ℕ). a ++ totalLine settled n (four (λ s. sum (allottedIn s l))))
+    (lines-columns ss ns gs ls vs (l .allotted) (l .accounts))
+    (length-plants ss ns gs ls vs ∙ sym (length-plants ss ns [] [] []))
+
+-- the line of row i, as the code lends and reads its figures
+pub row-line : (ss ns al : List ℕ) (ac : List ℤ) (i : ℕ) {net money : ℤ} → net ≡ getD ac (2 * i) (pos 0) → money ≡ getD ac (2 * i + 1) (pos 0)
+    → rowLine ss ns al ac i ≡ plantLine (shown (getD ss i 0) (getD ns i 0)) (take (4 * i + 4 - 4 * i) (drop (4 * i) al)) net money
+unfolding rowLine
+row-line ss ns al ac i e f =
+    let four : 4 * i + 4 - 4 * i ≡ 4 = omega arith in
+    rw (e, f, four)
+
+-- ---- lengths
+
+length-field : (f : List ℕ) (b : ℕ) → length (field f b) ≡ length f + 1
+unfolding field
+length-field f b = length-append f (b ∷ [])
+
+pub length-fields : (xs : List ℕ) → length (fieldsText xs) ≡ fieldsLength xs
+unfolding fieldsText fieldsLength figureLength
+length-fields [] = refl
+length-fields (x ∷ xs) = simp (length-append, length-field, length-fields xs)
+
+length-leading : (letter x y : ℕ) (xs : List ℕ) → length (leading letter x y xs) ≡ leadingLength x y xs
+unfolding leading leadingLength
+length-leading letter x y xs = omega (arith, length-fields (x ∷ y ∷ xs))
+
+pub length-plant-line : (p : Plant) (figures : List ℕ) (net money : ℤ) → length (plantLine p figures net money) ≡ plantLineLength p figures net money
+unfolding plantLineLength signedFigureLength
+length-plant-line p figures net money = ap length (plant-line-is p figures net money) ∙ simp (length-append, length-field, length-leading) (omega arith)
+
+pub length-total-line : (settled plants : ℕ) (columns : List ℕ) → length (totalLine settled plants columns) ≡ totalLineLength settled plants columns
+unfolding totalLineLength figureLength
+length-total-line settled plants columns = ap length (total-line-is settled plants columns) ∙ simp (length-append, length-field, length-leading)
+
+pub length-plant-lines : (ps : List Plant) (allotted : List ℕ) (accounts : List ℤ) → length (plantLines ps allotted accounts) ≡ plantLinesLength ps allotted accounts
+unfolding plantLines plantLinesLength
+length-plant-lines [] allotted accounts = refl
+length-plant-lines (p ∷ ps) allotted accounts =
+    length-append (plantLine p (take 4 allotted) (getD accounts 0 (pos 0)) (getD accounts 1 (pos 0))) (plantLines ps (drop 4 allotted) (drop 2 accounts))
+    ∙ ap₂ _+_ (length-plant-line p (take 4 allotted) (getD accounts 0 (pos 0)) (getD accounts 1 (pos 0))) (length-plant-lines ps (drop 4 allotted) (drop 2 accounts))
+
+-- ... of the rows from i on
+module _ (ss ns al : List ℕ) (ac : List ℤ) where
+  pub lengths-all : length (linesFrom ss ns al ac 0) ≡ plantLinesLength (plantsOf ss ns [] [] []) al ac
+  lengths-all = ap length (sym (lines-all ss ns al ac)) ∙ length-plant-lines (plantsOf ss ns [] [] []) al ac
+
+  pub lengths-more : (i : ℕ) → i < length ss → length (linesFrom ss ns al ac i) ≡ length (rowLine ss ns al ac i) + length (linesFrom ss ns al ac (i + 1))
+  lengths-more i h = ap length (lines-more ss ns al ac i h) ∙ length-append (rowLine ss ns al ac i) (linesFrom ss ns al ac (i + 1))
+
+  pub lengths-none : (i : ℕ) → length ss ≤ i → length (linesFrom ss ns al ac i) ≡ 0
+  lengths-none i h = ap length (lines-none ss ns al ac i h)
+
+-- the statement takes as many bytes as its length says
+pub length-statement : (settled : ℕ) (plants : List Plant) (l : Ledger) → length (statementText settled plants l) ≡ statementLength settled plants l
+unfolding statementText statementLength
+length-statement settled plants l =
+    let columns : List ℕ = four (λ s. sum (allottedIn s l)) in
+    length-append (plantLines plants (l .allotted) (l .accounts)) (totalLine settled (length plants) columns)
+    ∙ ap₂ _+_ (length-plant-lines plants (l .allotted) (l .accounts)) (length-total-line settled (length plants) columns)

@@ -1,0 +1,40 @@
+-- `writing::write_total_line` meets its contract: part by part, what is left to write. Assumes nothing.
+use mathlib.Core.Path.{_≡_, refl, sym, ap}
+use mathlib.Core.List.{List, _++_}
+use Prim.Native.Nat.{ℕ}
+use borrow.Author.Needs.{needs}
+use Rattle.lists.specs.Lists.{sum}
+use Rattle.lines.specs.Figures.{figure}
+use Rattle.statement.specs.Writing.{field, leading}
+use Rattle.statement.specs.Statement.{totalLine}
+use Rattle.statement.proofs.Text.{total-line-is}
+use Rattle.statement.proofs.Parts.{Left, left-whole, left-room, left-more, left-fits, left-last}
+use Rattle.statement.proofs.writing.write_total_line.Statement.{statement}
+use Rattle.statement.proofs.writing.write_total_line.Tie as tie
+
+abbrev Rest : tie.Start → ℕ → List ℕ → List ℕ → Type 0
+Rest s at text rest = let a = s .args in Left (totalLine (a .settled) (a .plants) (a .columns .now)) (a .at) (a .text .now) at text rest
+
+abbrev total : tie.Start → List ℕ
+total s = field (figure (sum (s .args .columns .now))) 10
+
+at-start : (s : tie.Start) → let a = s .args in Rest s (a .at) (a .text .now) (leading 84 (a .settled) (a .plants) (a .columns .now) ++ total s)
+at-start s = left-whole (s .pre .1) (total-line-is _ _ _)
+
+-- the sum that was worked
+total-is : (c : tie.After-sum-of) → total (c .before .before .before) ≡ field (figure (c .sum-of .result)) 10
+total-is c = ap (λ (n : ℕ). field (figure n) 10) (sym (c .sum-of .ensures))
+
+at-total : (c : tie.After-write-leading)
+    → let s = c .before .before .before .before .before in Rest s (c .write-leading .result) (c .write-leading .last .1 .1 .1 .1 .0) (total s)
+at-total c = left-more (at-start (c .before .before .before .before .before)) _ _ refl (c .write-leading .ensures)
+
+pub write-total-line-spec : {M : Type 1} → statement M
+write-total-line-spec =
+    tie.close
+    (tie.spec
+    (λ c κs. search needs)  -- sum-of-requires
+    (λ c κs. left-room (at-start (c .before .before .before .before)) _ _ refl)  -- write-leading-requires
+    (λ c κs. let l = c .before .before .before in left-fits (at-total l) (total-is (l .before .before)))  -- write-field-requires
+    (λ c. search needs)  -- same-length
+    (λ c. let l = c .before .before .before .before .before .before in left-last (at-total l) (total-is (l .before .before)) (c .before .before .write-field .ensures)))  -- returns

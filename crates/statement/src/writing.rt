@@ -1,0 +1,180 @@
+// The statement's lines, written from a position on. Every function answers the position behind what it wrote.
+ghost use mathlib.Core.Path.{_≡_};
+ghost use mathlib.Core.List.{[], _∷_};
+ghost use Prim.Native.Nat.{_*_, _≤_, _<_, _^_};
+ghost use lib.ListN.{length};
+ghost use Rattle.lists.specs.Lists.{sum};
+ghost use Rattle.lines.specs.Figures.{figure, signedFigure};
+ghost use Rattle.statement.specs.Writing.{field, fieldsText, leading, shown, rowLine, Even, Stateable, Room, Wrote, Fills};
+ghost use Rattle.hour.specs.Table.{plantsOf};
+ghost use Rattle.statement.specs.Statement.{plantLine, plantLines, totalLine, statementText};
+ghost use Rattle.statement.specs.Lengths.{statementLength};
+use lines::figures::write_figure;
+use lines::figures::write_signed_figure;
+
+// The letter that a line begins with, and a comma.
+fn write_letter(letter: u8, text: &mut [u8], at: usize) -> usize
+    requires { ⌜ Room (letter ∷ 44 ∷ []) at (now text) ⌝ }
+    ensures { λ r. ⌜ Wrote (letter ∷ 44 ∷ []) at (now (text .entry)) r (now (text .exit)) ⌝ }
+{
+    text[at] = letter;
+    text[at + 1] = b',';
+    at + 2
+}
+
+// A figure, and the byte behind it: a comma, or the line's end.
+fn write_field(x: u64, behind: u8, text: &mut [u8], at: usize) -> usize
+    requires { ⌜ Room (field (figure x) behind) at (now text) ⌝ }
+    ensures { λ r. ⌜ Wrote (field (figure x) behind) at (now (text .entry)) r (now (text .exit)) ⌝ }
+{
+    let end = write_figure(x, text, at);
+    text[end] = behind;
+    end + 1
+}
+
+// A signed figure, and the byte behind it.
+fn write_signed_field(z: i64, behind: u8, text: &mut [u8], at: usize) -> usize
+    requires { ⌜ Room (field (signedFigure z) behind) at (now text) ⌝ }
+    ensures { λ r. ⌜ Wrote (field (signedFigure z) behind) at (now (text .entry)) r (now (text .exit)) ⌝ }
+{
+    let end = write_signed_figure(z, text, at);
+    text[end] = behind;
+    end + 1
+}
+
+// Figures, each with a comma behind it.
+fn write_fields(figures: &[u64], text: &mut [u8], at: usize) -> usize
+    requires { ⌜ Room (fieldsText (now figures)) at (now text) ⌝ }
+    ensures { λ r. ⌜ Wrote (fieldsText (now (figures .entry))) at (now (text .entry)) r (now (text .exit)) ⌝ }
+{
+    let mut end = at;
+    let mut i: usize = 0;
+    while i < figures.len() {
+        end = write_field(figures[i], b',', text, end);
+        i += 1;
+    }
+    end
+}
+
+// How A and T lines begin: a letter, two figures, and a list of figures.
+fn write_leading(letter: u8, x: u64, y: u64, figures: &[u64], text: &mut [u8], at: usize) -> usize
+    requires { ⌜ Room (leading letter x y (now figures)) at (now text) ⌝ }
+    ensures { λ r. ⌜ Wrote (leading letter x y (now (figures .entry))) at (now (text .entry)) r (now (text .exit)) ⌝ }
+{
+    let end = write_letter(letter, text, at);
+    let end = write_field(x, b',', text, end);
+    let end = write_field(y, b',', text, end);
+    write_fields(figures, text, end)
+}
+
+// An A line: submarket, number, the row's ledger figures, net, money.
+fn write_plant_line(
+    submarket: u64,
+    number: u64,
+    figures: &[u64],
+    net: i64,
+    money: i64,
+    text: &mut [u8],
+    at: usize,
+) -> usize
+    requires { ⌜ Room (plantLine (shown submarket number) (now figures) net money) at (now text) ⌝ }
+    ensures { λ r. ⌜ Wrote (plantLine (shown submarket number) (now (figures .entry)) net money) at (now (text .entry)) r (now (text .exit)) ⌝ }
+{
+    let end = write_leading(b'A', submarket, number, figures, text, at);
+    let end = write_signed_field(net, b',', text, end);
+    write_signed_field(money, b'\n', text, end)
+}
+
+// The A line of row i.
+fn write_row(
+    submarket: &[u64],
+    number: &[u64],
+    allotted: &[u64],
+    accounts: &[i64],
+    i: usize,
+    text: &mut [u8],
+    at: usize,
+) -> usize
+    requires { ⌜ (i < length (now submarket)) × Even (now submarket) (now number) (now allotted) (now accounts) ⌝ }
+    requires { ⌜ Room (rowLine (now submarket) (now number) (now allotted) (now accounts) i) at (now text) ⌝ }
+    ensures { λ r. ⌜ Wrote (rowLine (now (submarket .entry)) (now (number .entry)) (now (allotted .entry)) (now (accounts .entry)) i) at (now (text .entry)) r (now (text .exit)) ⌝ }
+{
+    let start = 4 * i;
+    let stop = start + 4;
+    let net = accounts[2 * i];
+    let money = accounts[2 * i + 1];
+    write_plant_line(
+        submarket[i],
+        number[i],
+        &allotted[start..stop],
+        net,
+        money,
+        text,
+        at,
+    )
+}
+
+// The A lines, row by row.
+fn write_plant_lines(
+    submarket: &[u64],
+    number: &[u64],
+    allotted: &[u64],
+    accounts: &[i64],
+    text: &mut [u8],
+    at: usize,
+) -> usize
+    requires { ⌜ Even (now submarket) (now number) (now allotted) (now accounts) ⌝ }
+    requires { ⌜ Room (plantLines (plantsOf (now submarket) (now number) [] [] []) (now allotted) (now accounts)) at (now text) ⌝ }
+    ensures { λ r. ⌜ Wrote (plantLines (plantsOf (now (submarket .entry)) (now (number .entry)) [] [] []) (now (allotted .entry)) (now (accounts .entry))) at (now (text .entry)) r (now (text .exit)) ⌝ }
+{
+    let mut end = at;
+    let mut i: usize = 0;
+    while i < submarket.len() {
+        end = write_row(submarket, number, allotted, accounts, i, text, end);
+        i += 1;
+    }
+    end
+}
+
+// The sum of the columns.
+pub fn sum_of(columns: &[u64]) -> u64
+    requires { ⌜ sum (now columns) < 2 ^ 64 ⌝ }
+    ensures { λ r. ⌜ r ≡ sum (now (columns .entry)) ⌝ }
+{
+    let mut s: u64 = 0;
+    let mut i: usize = 0;
+    while i < columns.len() {
+        s += columns[i];
+        i += 1;
+    }
+    s
+}
+
+// The T line: periods settled, P, column sums, their sum.
+fn write_total_line(settled: u64, plants: u64, columns: &[u64], text: &mut [u8], at: usize) -> usize
+    requires { ⌜ sum (now columns) < 2 ^ 64 ⌝ }
+    requires { ⌜ Room (totalLine settled plants (now columns)) at (now text) ⌝ }
+    ensures { λ r. ⌜ Wrote (totalLine settled plants (now (columns .entry))) at (now (text .entry)) r (now (text .exit)) ⌝ }
+{
+    let total = sum_of(columns);
+    let end = write_leading(b'T', settled, plants, columns, text, at);
+    write_field(total, b'\n', text, end)
+}
+
+// The statement, to the front of the text. The answer is its length, and the rest of the text stays.
+pub fn write_statement(
+    settled: u64,
+    submarket: &[u64],
+    number: &[u64],
+    allotted: &[u64],
+    accounts: &[i64],
+    text: &mut [u8],
+) -> usize
+    requires { ⌜ Stateable (now submarket) (now number) (record { allotted = now allotted; accounts = now accounts }) ⌝ }
+    requires { ⌜ statementLength settled (plantsOf (now submarket) (now number) [] [] []) (record { allotted = now allotted; accounts = now accounts }) ≤ length (now text) ⌝ }
+    ensures { λ r. ⌜ Fills (statementText settled (plantsOf (now (submarket .entry)) (now (number .entry)) [] [] []) (record { allotted = now (allotted .entry); accounts = now (accounts .entry) })) (now (text .entry)) r (now (text .exit)) ⌝ }
+{
+    let columns = ledger::column_sums(allotted);
+    let end = write_plant_lines(submarket, number, allotted, accounts, text, 0);
+    write_total_line(settled, submarket.len() as u64, &columns, text, end)
+}

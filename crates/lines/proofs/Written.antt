@@ -12,7 +12,7 @@ use Rattle.lists.proofs.Parts.{between-next, length-between}
 use Rattle.lines.specs.Figures.{written, Wrote}
 
 -- one byte
-written-byte : (text : List ℕ) (at b : ℕ) → at < length text → set text at b ≡ written text at (b ∷ [])
+pub written-byte : (text : List ℕ) (at b : ℕ) → at < length text → set text at b ≡ written text at (b ∷ [])
 unfolding written
 written-byte text at b h = set-split text at b h ∙ rw add-one
 

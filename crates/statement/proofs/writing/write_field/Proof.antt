@@ -17,7 +17,7 @@ wrote : (c : tie.After-slice-known2)
 unfolding figureLength
 wrote c =
     let w = c .before .before .write-figure .ensures in
-    record { place = w .0; text = w .1 }
+    record { place = w .behind; text = w .text }
 
 pub write-field-spec : {M : Type 1} → statement M
 unfolding figureLength

@@ -23,7 +23,7 @@ wrote c =
     let w = c .before .before .write-signed-figure .ensures in
     let a = entry c .args in
     let e = toZ-ofZ (entry c .fits .z) in
-    record { place = w .0 ∙ ap (λ (z : ℤ). a .at + signedFigureLength z) e; text = w .1 ∙ ap (λ (z : ℤ). written (a .text .now) (a .at) (signedFigure z)) e }
+    record { place = w .behind ∙ ap (λ (z : ℤ). a .at + signedFigureLength z) e; text = w .text ∙ ap (λ (z : ℤ). written (a .text .now) (a .at) (signedFigure z)) e }
 
 pub write-signed-field-spec : {M : Type 1} → statement M
 unfolding signedFigureLength

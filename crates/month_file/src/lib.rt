@@ -1,0 +1,1 @@
+// The month file (document 01, 'The file and its statement').

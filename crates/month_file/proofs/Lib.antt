@@ -1,0 +1,2 @@
+-- Laws of the month file.
+pub mod Bytes

@@ -75,7 +75,7 @@ module _ (b : ℕ) (bs : List ℕ) (r : Reading) (rest : (q : Reading) → finis
   in-line false t e =
       let full = ltb-false (length (r .line)) 8192 t in
       rw t
-      (rest _ ∙ stays (r .count) (r .count + 1) 26 (linesAfter [] bs)
+      (rest _ ∙ stays (r .count + 1) (r .count + 1) 26 (linesAfter [] bs)
       ∙ sym (long-line (r .count) (r .progress) e bs (r .line ++ (b ∷ [])) (omega (arith, length-append (r .line) (b ∷ [])))))
 
   unrefused : (t : Bool) → isRefused (r .progress) ≡ false

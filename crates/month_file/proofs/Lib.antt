@@ -1,2 +1,3 @@
 -- Laws of the month file.
 pub mod Bytes
+pub mod Collected

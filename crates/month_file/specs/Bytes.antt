@@ -28,7 +28,7 @@ unfoldable pub longer : Reading → ℕ → Reading
 longer r b =
     cond (ltb (length (r .line)) 8192)
     (record { line = r .line ++ (b ∷ []); count = r .count; progress = r .progress })
-    (record { line = []; count = r .count; progress = refuses (r .count + 1) 26 })
+    (let k = r .count + 1 in record { line = []; count = k; progress = refuses k 26 })
 
 -- one byte; after a refusal none matters
 unfoldable pub byte : Reading → ℕ → Reading

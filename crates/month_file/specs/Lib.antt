@@ -2,3 +2,4 @@
 pub mod File
 pub mod Worked
 pub mod Bytes
+pub mod Machine

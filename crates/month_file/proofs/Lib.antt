@@ -1,3 +1,5 @@
 -- Laws of the month file.
 pub mod Bytes
 pub mod Collected
+pub mod Rows
+pub mod Moves

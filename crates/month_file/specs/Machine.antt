@@ -5,7 +5,7 @@ use mathlib.Core.Bool.{Bool, true, false, cond, _&&_}
 use mathlib.Core.List.{List}
 use lib.Dec.{eqb, leb, ltb}
 use lib.IntN.{ℤ}
-use lib.ListN.{length, take, drop, getD}
+use lib.ListN.{length, take, drop, set, getD}
 use Rattle.hour.specs.declared.Plant.{Plant}
 use Rattle.hour.specs.Table.{plantsOf}
 use Rattle.ledger.specs.Ledger.{Ledger, inBounds}
@@ -74,3 +74,87 @@ pub record Collected (part : List ℕ) (from : ℕ) (old : List ℕ) (at : ℕ) 
   pub same : (count : ℕ) (p : Progress) → isRefused p ≡ false
       → fed (record { line = take at old; count = count; progress = p }) (drop from part)
       ≡ fed (record { line = take (at + (to - from)) new; count = count; progress = p }) (drop to part)
+
+-- ---- what holds of the state and the lists at every line
+
+-- the lent lists are long enough for every month
+pub record Lent (k : Kept) : Type 0 where
+  pub submarket : 512 ≤ length (k .submarket)
+  pub number : 512 ≤ length (k .number)
+  pub guarantee : 512 ≤ length (k .guarantee)
+  pub loss : 512 ≤ length (k .loss)
+  pub availability : 512 ≤ length (k .availability)
+  pub profile : 744 ≤ length (k .profile)
+  pub allotted : 4 * 512 ≤ length (k .allotted)
+  pub accounts : 2 * 512 ≤ length (k .accounts)
+
+-- among P and H lines: what the first line names is in limits, and each line so far was one of these
+pub record Gathering (f : MonthFile) : Type 0 where
+  pub plants : f .plants ≤ 512
+  pub periods : f .periods ≤ 744
+  pub rows : f .rows ≤ f .plants
+  pub figures : f .figures < f .periods
+  pub counted : f .count ≡ 1 + f .rows + f .figures
+
+-- among G lines: the table has passed 5 to 8, the ledger is in its bounds, and each line so far was the first, a P, an H or a G line
+pub record Settling (f : MonthFile) (k : Kept) : Type 0 where
+  pub plants : f .month .plants ≤ 512
+  pub periods : f .month .periods ≤ 744
+  pub due : f .month .due ≤ f .month .periods + 1
+  pub counted : f .count ≡ f .month .plants + f .month .periods + f .month .due
+  pub rows : rowsNumber 0 0 (rowsOf (f .month .plants) k) ≡ 0
+  pub bounded : inBounds (ledgerOf (f .month .plants) k) ≡ true
+
+pub record Valid (f : MonthFile) (k : Kept) : Type 0 where
+  pub lent : Lent k
+  pub short : f .length ≤ 8192
+  pub begun : f .stage ≡ 0 → f .count ≡ 0
+  pub gathering : f .stage ≡ 1 → Gathering f
+  pub settling : f .stage ≡ 2 → Settling f k
+
+-- a line was read: the state r and the lists stand for this progress
+pub record Moved (f : MonthFile) (p : Progress) (r : MonthFile) (k : Kept) : Type 0 where
+  pub empty : r .length ≡ 0
+  pub counted : r .count ≡ f .count + 1
+  pub stands : progressOf r k ≡ p
+  pub valid : Valid r k
+
+-- the state with one more line read, at a stage
+unfoldable pub atStage : MonthFile → ℕ → MonthFile
+atStage f stage =
+    record {
+      stage = stage;
+      length = 0;
+      count = f .count + 1;
+      plants = f .plants;
+      periods = f .periods;
+      tariff = f .tariff;
+      rows = f .rows;
+      figures = f .figures;
+      month = f .month;
+      number = f .number;
+    }
+
+-- ... and a refusal
+unfoldable pub atRefusal : MonthFile → ℕ → MonthFile
+atRefusal f n =
+    record {
+      stage = 3;
+      length = 0;
+      count = f .count + 1;
+      plants = f .plants;
+      periods = f .periods;
+      tariff = f .tariff;
+      rows = f .rows;
+      figures = f .figures;
+      month = f .month;
+      number = n;
+    }
+
+-- a row's figures stored at its place in the columns
+pub record RowStored (at : ℕ) (figures ss₀ ss ns₀ ns gs₀ gs ls₀ ls vs₀ vs : List ℕ) : Type 0 where
+  pub submarket : ss ≡ set ss₀ at (getD figures 0 0)
+  pub number : ns ≡ set ns₀ at (getD figures 1 0)
+  pub guarantee : gs ≡ set gs₀ at (getD figures 2 0)
+  pub loss : ls ≡ set ls₀ at (getD figures 3 0)
+  pub availability : vs ≡ set vs₀ at (getD figures 4 0)

@@ -3,6 +3,8 @@
 use month::Month;
 
 mod collecting;
+mod keeping;
+mod taking;
 mod turns;
 
 // How far the file has come. Stages: 0 the first line is due, 1 P and H lines, 2 G lines, 3 refused.

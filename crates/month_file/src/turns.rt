@@ -29,7 +29,7 @@ impl MonthFile {
 
     // 31: is a line with this start and first figure in turn?
     fn in_turn(self, start: u64, period: u64) -> bool
-        requires { ⌜ self .figures ≤ 744 ⌝ }
+        requires { ⌜ (self .stage ≡ 1 → self .figures ≤ 744) ⌝ }
         ensures { λ r. ⌜ r ≡ turn self start period ⌝ }
     {
         if self.stage == 0 {

@@ -12,7 +12,7 @@ in-turn-spec =
     tie.close
     (tie.spec
     (λ c. search cases)
-    (λ c κs. search needs)
+    (λ c κs. c .before .before .before .before .pre (c .if2 .taken))  -- gather-turn-requires
     (λ c. search (cases, tests) depth 8)
     (λ c κs. search needs)
     (λ c. search (cases, tests) depth 8)

@@ -3,3 +3,4 @@ pub mod Bytes
 pub mod Collected
 pub mod Rows
 pub mod Moves
+pub mod Opened

@@ -12,7 +12,7 @@ use Rattle.ledger.specs.Ledger.{Ledger, inBounds}
 use Rattle.month.specs.declared.Month.{Month}
 use Rattle.month.specs.Questions.{rowsNumber}
 use Rattle.month_file.specs.declared.MonthFile.{MonthFile}
-use Rattle.month_file.specs.File.{Progress, begins, gathers, settles, refuses}
+use Rattle.month_file.specs.File.{Progress, begins, gathers, settles, refuses, opened}
 use Rattle.month_file.specs.Bytes.{Reading, isRefused, fed}
 
 -- The lent lists that hold what was read: the plant table's columns, the profile, the ledger
@@ -158,3 +158,15 @@ pub record RowStored (at : ℕ) (figures ss₀ ss ns₀ ns gs₀ gs ls₀ ls vs�
   pub guarantee : gs ≡ set gs₀ at (getD figures 2 0)
   pub loss : ls ≡ set ls₀ at (getD figures 3 0)
   pub availability : vs ≡ set vs₀ at (getD figures 4 0)
+
+-- what opening asks: the first line's sizes in limits, and each line so far but the one just read was the first, a P or an H line
+pub record Openable (f : MonthFile) (k : Kept) : Type 0 where
+  pub lent : Lent k
+  pub plants : f .plants ≤ 512
+  pub periods : f .periods ≤ 744
+  pub counted : f .count ≡ f .plants + f .periods
+
+-- the month of the rows and the profile that are kept, opened
+unfoldable pub openedOf : MonthFile → Kept → Progress
+openedOf f k =
+    opened (f .count + 1) (record { periods = f .periods; plants = f .plants; tariff = f .tariff }) (rowsOf (f .plants) k) (take (f .periods) (k .profile))

@@ -2,33 +2,11 @@
 use crate::MonthFile;
 use month::questions::sizes_number;
 ghost use mathlib.Core.Path.{_≡_};
-ghost use Prim.Native.Nat.{_+_, _≤_, _<_};
+ghost use Prim.Native.Nat.{_+_};
 ghost use Rattle.month_file.specs.File.{begun};
-ghost use Rattle.month_file.specs.Machine.{Kept, Lent, Moved, atStage, atRefusal};
+ghost use Rattle.month_file.specs.Machine.{Kept, Lent, Moved};
 
 impl MonthFile {
-    // One more line read, at a stage.
-    fn at_stage(self, stage: u64) -> MonthFile
-        requires { ⌜ self .count < 10000 ⌝ }
-        ensures { λ r. ⌜ r ≡ atStage self stage ⌝ }
-    {
-        let mut f = self;
-        f.stage = stage;
-        f.length = 0;
-        f.count = self.count + 1;
-        f
-    }
-
-    // The line just read is refused.
-    fn refused(self, number: u64) -> MonthFile
-        requires { ⌜ self .count < 10000 ⌝ }
-        ensures { λ r. ⌜ r ≡ atRefusal self number ⌝ }
-    {
-        let mut f = self.at_stage(3);
-        f.number = number;
-        f
-    }
-
     // 2 to 4 on the first line.
     fn begun(self, periods: u64, plants: u64, tariff: u64) -> MonthFile
         requires { ⌜ self .count ≡ 0 ⌝ }

@@ -4,3 +4,4 @@ pub mod Collected
 pub mod Rows
 pub mod Moves
 pub mod Opened
+pub mod Gathered

@@ -15,33 +15,31 @@ fn meter_turn(month: Month, start: u64, period: u64) -> bool
     month.due <= month.periods && period == month.due
 }
 
-impl MonthFile {
-    // 31, of P and H lines: is it a P line where rows are missing, and else the next H line?
-    fn gather_turn(self, start: u64, period: u64) -> bool
-        requires { ⌜ self .figures ≤ 744 ⌝ }
-        ensures { λ r. ⌜ r ≡ gatherTurn self start period ⌝ }
-    {
-        if (self.rows as u64) < self.plants {
-            return start == 2;
-        }
-        start == 3 && period == self.figures as u64 + 1
+// 31, of P and H lines: is it a P line where rows are missing, and else the next H line?
+fn gather_turn(file: MonthFile, start: u64, period: u64) -> bool
+    requires { ⌜ file .figures ≤ 744 ⌝ }
+    ensures { λ r. ⌜ r ≡ gatherTurn file start period ⌝ }
+{
+    if (file.rows as u64) < file.plants {
+        return start == 2;
     }
+    start == 3 && period == file.figures as u64 + 1
+}
 
-    // 31: is a line with this start and first figure in turn?
-    fn in_turn(self, start: u64, period: u64) -> bool
-        requires { ⌜ (self .stage ≡ 1 → self .figures ≤ 744) ⌝ }
-        ensures { λ r. ⌜ r ≡ turn self start period ⌝ }
-    {
-        if self.stage == 0 {
-            return start == 1;
-        }
-        if self.stage == 1 {
-            return self.gather_turn(start, period);
-        }
-        if self.stage == 2 {
-            let month = self.month;
-            return meter_turn(month, start, period);
-        }
-        false
+// 31: is a line with this start and first figure in turn?
+pub fn in_turn(file: MonthFile, start: u64, period: u64) -> bool
+    requires { ⌜ (file .stage ≡ 1 → file .figures ≤ 744) ⌝ }
+    ensures { λ r. ⌜ r ≡ turn file start period ⌝ }
+{
+    if file.stage == 0 {
+        return start == 1;
     }
+    if file.stage == 1 {
+        return gather_turn(file, start, period);
+    }
+    if file.stage == 2 {
+        let month = file.month;
+        return meter_turn(month, start, period);
+    }
+    false
 }

@@ -1,10 +1,10 @@
--- `MonthFile::gather_turn` meets its contract. Assumes nothing.
+-- `turns::gather_turn` meets its contract. Assumes nothing.
 use borrow.Author.Needs.{needs}
 use Rattle.lists.proofs.Questions.{tests}
 use Rattle.lines.proofs.Starts.{cases}
 use Rattle.month_file.specs.Machine.{gatherTurn}
-use Rattle.month_file.proofs.MonthFile.gather_turn.Statement.{statement}
-use Rattle.month_file.proofs.MonthFile.gather_turn.Tie as tie
+use Rattle.month_file.proofs.turns.gather_turn.Statement.{statement}
+use Rattle.month_file.proofs.turns.gather_turn.Tie as tie
 
 pub gather-turn-spec : {M : Type 1} → statement M
 unfolding gatherTurn

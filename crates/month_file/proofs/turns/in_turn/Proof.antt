@@ -1,10 +1,10 @@
--- `MonthFile::in_turn` meets its contract. Assumes nothing.
+-- `turns::in_turn` meets its contract. Assumes nothing.
 use borrow.Author.Needs.{needs}
 use Rattle.lists.proofs.Questions.{tests}
 use Rattle.lines.proofs.Starts.{cases}
 use Rattle.month_file.specs.Machine.{turn}
-use Rattle.month_file.proofs.MonthFile.in_turn.Statement.{statement}
-use Rattle.month_file.proofs.MonthFile.in_turn.Tie as tie
+use Rattle.month_file.proofs.turns.in_turn.Statement.{statement}
+use Rattle.month_file.proofs.turns.in_turn.Tie as tie
 
 pub in-turn-spec : {M : Type 1} → statement M
 unfolding turn

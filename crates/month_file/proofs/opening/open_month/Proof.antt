@@ -1,4 +1,4 @@
--- `MonthFile::opened` meets its contract. Assumes nothing.
+-- `opening::open_month` meets its contract. Assumes nothing.
 use mathlib.Core.Path.{_≡_, sym}
 use Prim.Native.Nat.{_*_}
 use native.Mathlib.Omega.{arith}
@@ -10,15 +10,15 @@ use Rattle.month_file.specs.File as file
 use Rattle.month_file.specs.Machine.{Kept, kept, rowsOf, ledgerOf}
 use Rattle.month_file.proofs.Rows.{equal-rows}
 use Rattle.month_file.proofs.Opened.{front-count, opening-refused, opening-opened}
-use Rattle.month_file.proofs.MonthFile.opened.Statement.{statement}
-use Rattle.month_file.proofs.MonthFile.opened.Tie as tie
+use Rattle.month_file.proofs.opening.open_month.Statement.{statement}
+use Rattle.month_file.proofs.opening.open_month.Tie as tie
 
 -- once the month's own call has answered
 abbrev entry : tie.After-open-columns → tie.Start
 entry c = c .before .before .before .before .before .before .before .before .before .before .before .before .before .before .before .before .before
 
 abbrev state : tie.After-open-columns → MonthFile
-state c = entry c .args .self
+state c = entry c .args .file
 
 abbrev lists : tie.After-open-columns → Kept
 lists c =
@@ -38,8 +38,8 @@ same c = c .open-columns .kept .1 .1 .1 .1 .1 .1 .1 .1 .0
 abbrev same-accounts : (c : tie.After-open-columns) → length (c .open-columns .last .1 .1 .1 .1 .1 .1 .1 .1 .1 .0) ≡ length (take (2 * state c .plants) (lists c .accounts))
 same-accounts c = c .open-columns .kept .1 .1 .1 .1 .1 .1 .1 .1 .1 .0
 
-pub opened-spec : {M : Type 1} → statement M
-opened-spec =
+pub open-month-spec : {M : Type 1} → statement M
+open-month-spec =
     tie.close
     (tie.spec
     (λ c. search needs)  -- mul-fours

@@ -1,9 +1,9 @@
--- `MonthFile::begun` meets its contract. Assumes nothing.
+-- `beginning::begun` meets its contract. Assumes nothing.
 use borrow.Author.Needs.{needs}
 use Rattle.month_file.specs.File.{begun}
 use Rattle.month_file.proofs.Moves.{refuses-by, begins-by}
-use Rattle.month_file.proofs.MonthFile.begun.Statement.{statement}
-use Rattle.month_file.proofs.MonthFile.begun.Tie as tie
+use Rattle.month_file.proofs.beginning.begun.Statement.{statement}
+use Rattle.month_file.proofs.beginning.begun.Tie as tie
 
 pub begun-spec : {M : Type 1} → statement M
 unfolding begun

@@ -10,7 +10,7 @@ use Rattle.lists.specs.Lists.{sum}
 use Rattle.lists.proofs.Columns.{_!_, length-rowwise, at-⊕, at-⊖, at-⊓, sum-⊕, sum-⊖, sum-le, sum-ext, sum-tight, sum-nil, sum-joined, at-map-sum, joined-four, transpose-at, transpose-sum, each, at-within, within-le, within-⊖, within-nil, within-joined, Sited, sited-le, totals-sum, totals-ext, totals-is, at-totals, at-joined, Only, only}
 use Rattle.lists.proofs.Sums.{at-le-sum}
 use Rattle.lists.proofs.Questions.{every-all, at-most-all}
-use Rattle.sharing.specs.Laws.{Lawful}
+use Rattle.sharing.specs.Laws.{Lawful, rowSum}
 use Rattle.sharing.specs.Sharing.{Rule, serve, transfer}
 use Rattle.sharing.specs.Calls.{apart}
 use Rattle.sharing.proofs.Sharing.{adds-le}
@@ -23,7 +23,7 @@ use lib.Dec.{eqb}
 module _ {rule : Rule} (L : Lawful rule) where
   module _ (subs : List ℕ) where
     -- each submarket's amount is no more than the weights of its rows
-    abbrev Fits : List ℕ → List ℕ → Type 0
+    abbrev pub Fits : List ℕ → List ℕ → Type 0
     Fits amounts ws = (s : ℕ) → 1 ≤ s → s ≤ 4 → at s amounts 0 ≤ sum (within s subs ws)
 
     module _ (amounts ws : List ℕ) (fits : Fits amounts ws) where
@@ -44,7 +44,7 @@ module _ {rule : Rule} (L : Lawful rule) where
           (q-under 1 (omega arith) (omega arith) i) (q-under 2 (omega arith) (omega arith) i)
           (q-under 3 (omega arith) (omega arith) i) (q-under 4 (omega arith) (omega arith) i)
 
-      portion-under : (i : ℕ) → portion rule subs amounts ws ! i ≤ ws ! i
+      pub portion-under : (i : ℕ) → portion rule subs amounts ws ! i ≤ ws ! i
       portion-under i = let a = at-portion i in let b = only-own i in omega arith
 
       portion-within : (s : ℕ) → 1 ≤ s → s ≤ 4 → (i : ℕ) → within s subs (portion rule subs amounts ws) ! i ≡ q s ! i
@@ -53,7 +53,7 @@ module _ {rule : Rule} (L : Lawful rule) where
           go : (s : ℕ) → 1 ≤ s → s ≤ 4 → inside s (subs ! i) (q 1 ! i + q 2 ! i + q 3 ! i + q 4 ! i) ≡ q s ! i
           go = each _ (only-own i .in1) (only-own i .in2) (only-own i .in3) (only-own i .in4)
 
-      portion-adds : (s : ℕ) → 1 ≤ s → s ≤ 4 → sum (within s subs (portion rule subs amounts ws)) ≡ at s amounts 0
+      pub portion-adds : (s : ℕ) → 1 ≤ s → s ≤ 4 → sum (within s subs (portion rule subs amounts ws)) ≡ at s amounts 0
       unfolding q
       portion-adds s l h =
           sum-ext (within s subs (portion rule subs amounts ws)) (q s) (portion-within s l h)
@@ -364,6 +364,26 @@ module _ {rule : Rule} (L : Lawful rule) (subs have want : List ℕ) (four-have 
         fourGivers = four-got;
         fourLeft = four-rest;
       }
+
+  -- what the code goes by: the table has four rows, no receiver is sent more than its open need, and a row adds up to its four places
+  pub four-table : length (table rule subs have want) ≡ 4
+  four-table = four-rows
+
+  pub sent-is : (r : ℕ) → sum (map (λ g. g ! r) (table rule subs have want)) ≡ (totals subs want ⊖ own rule subs have want) ! r
+  unfolding open′ need
+  sent-is r =
+      sum-ext (map (λ g. g ! r) (table rule subs have want)) (getD cols r [])
+      (λ g. List·getD-map (λ g. g ! r) (table rule subs have want) g [] ∙ at-table g r)
+      ∙ col-adds r
+
+  pub row-is : (g : ℕ) → rowSum (table rule subs have want) g ≡ sum (getD (table rule subs have want) g [])
+  row-is g =
+      sym (sum-row g ∙ joined-four cols four-cols g
+      ∙ (let a = at-table g 0 in let b = at-table g 1 in let c = at-table g 2 in let d = at-table g 3 in omega arith))
+
+  pub row-under : (g : ℕ) → rowSum (table rule subs have want) g ≤ (have ⊖ own rule subs have want) ! g
+  unfolding left
+  row-under g = let a = row-is g in let b = sum-row g in let c = cols-under g in omega arith
 
   -- the transfer step's question is answered yes, where no more than 2 × 10^9 is at hand
   pub transfer-asked : sum have ≤ 2 * 10 ^ 9 → Transferable (have ⊖ own rule subs have want) (totals subs want ⊖ own rule subs have want)

@@ -1,22 +1,22 @@
 -- Step 8 as the code builds it: min(G, b) in the own submarket, and then what the submarkets supplied, twice. Assumes nothing.
-use mathlib.Core.Path.{_≡_, refl, sym, ap, _∙_}
+use mathlib.Core.Path.{_≡_, refl, ap, _∙_}
 use mathlib.Core.Bool.{Bool, true, false, cond}
-use mathlib.Core.List.{List, [], _∷_}
-use Prim.Native.Nat.{ℕ, _+_, _-_, _*_, min, max, _≤_, _<_}
+use mathlib.Core.List.{List, []}
+use Prim.Native.Nat.{ℕ, _+_, _-_, _*_, _^_, min, _≤_}
 use native.Mathlib.Omega.{arith}
 use lib.Dec.{eqb}
-use lib.ListN.{length, getD}
-use Rattle.lists.specs.Lists.{sum}
-use Rattle.lists.specs.Columns.{rowwise, _⊕_, _⊓_, inside, within, four, at, byRow}
+use lib.ListN.{length}
+use Rattle.lists.specs.Lists.{sum, Within}
+use Rattle.lists.specs.Columns.{_⊕_, _⊓_, inside, within, four, at, byRow}
 use Rattle.lists.proofs.Columns.{_!_, length-rowwise, at-⊕, at-⊓, at-within}
 use Rattle.sharing.specs.Laws.{Lawful}
 use Rattle.sharing.specs.Sharing.{Rule}
 use Rattle.cover.specs.Cover.{ownParts, got, supplied}
 use Rattle.cover.proofs.Cover.{own-sized, got-sized}
 use Rattle.hour.specs.Hour.{Hour, submarkets, covered, deficit, surplus, leftOver, rights, ownCover, coverGot, ownSecondary, secondaryGot, figure, allotment}
-use Rattle.hour.proofs.Hour.{Sound, rows-subs, rows-G, rows-b, rows-d, rows-r, home, at-home, at-figure, figure-le}
+use Rattle.hour.proofs.Hour.{Sound, rows-subs, rows-G, rows-b, rows-d, rows-r, at-home, at-figure, figure-le}
 use Rattle.hour.proofs.Figures.{allotment-at, allotment-sized}
-use Rattle.hour.proofs.Fours.{by-fours, fours-sized, fours-at}
+use Rattle.hour.proofs.Fours.{by-four, by-fours, fours-sized, fours-at}
 
 module _ {rule : Rule} (L : Lawful rule) (subs have want : List ℕ) (same : length want ≡ length subs) where
   pub supplied-sized : (s : ℕ) → length (supplied rule subs have want s) ≡ length subs
@@ -43,13 +43,17 @@ module _ (h : Hour) (ok : Sound h) where
   abbrev subs : List ℕ
   subs = submarkets h
 
+  -- what is there before the submarkets supply anything
+  abbrev begun : ℕ → List ℕ
+  begun s = within s subs (h .metered ⊓ covered h)
+
   abbrev first : ℕ → List ℕ
   first = supplied (h .rule) subs (surplus h) (deficit h)
 
   abbrev second : ℕ → List ℕ
   second = supplied (h .rule) subs (leftOver h) (rights h)
 
-  begun-sized : (s : ℕ) → length (within s subs (h .metered ⊓ covered h)) ≡ length subs
+  begun-sized : (s : ℕ) → length (begun s) ≡ length subs
   begun-sized s =
       length-rowwise (inside s) 0 0 subs (h .metered ⊓ covered h)
       ∙ (let a = length-rowwise min 0 0 (h .metered) (covered h) in let b = rows-G h ok in let c = rows-b h ok in omega arith)
@@ -60,7 +64,7 @@ module _ (h : Hour) (ok : Sound h) where
   second-sized : (s : ℕ) → length (second s) ≡ length subs
   second-sized = supplied-sized (ok .lawful) subs (leftOver h) (rights h) (rows-r h ok)
 
-  figure-is : (s : ℕ) → 1 ≤ s → s ≤ 4 → (i : ℕ) → figure h s ! i ≡ within s subs (h .metered ⊓ covered h) ! i + first s ! i + second s ! i
+  figure-is : (s : ℕ) → 1 ≤ s → s ≤ 4 → (i : ℕ) → figure h s ! i ≡ begun s ! i + first s ! i + second s ! i
   unfolding ownCover coverGot ownSecondary secondaryGot
   figure-is s l k i =
       let a = at-figure h ok s l k i in
@@ -71,14 +75,14 @@ module _ (h : Hour) (ok : Sound h) where
       omega arith
 
   pub allotment-built : allotment h
-      ≡ byRow 0 (four (λ s. within s subs (h .metered ⊓ covered h))) ⊕ byRow 0 (four first) ⊕ byRow 0 (four second)
+      ≡ byRow 0 (four begun) ⊕ byRow 0 (four first) ⊕ byRow 0 (four second)
   allotment-built =
       by-fours n (allotment h) (x ⊕ y ⊕ z) (allotment-sized h ok ∙ (let e = rows-subs h ok in omega arith))
       (length-rowwise _+_ 0 0 (x ⊕ y) z ∙ (let a = length-rowwise _+_ 0 0 x y in let b = x-sized in let c = y-sized in let d = z-sized in omega arith))
       (λ s i l k _.
       let a = allotment-at h ok s l k i in let b = figure-is s l k i in
       let c = at-⊕ (x ⊕ y) z (s - 1 + i * 4) in let d = at-⊕ x y (s - 1 + i * 4) in
-      let e = fours-at (λ s. within s subs (h .metered ⊓ covered h)) n begun-sized s l k i in
+      let e = fours-at begun n begun-sized s l k i in
       let f = fours-at first n first-sized s l k i in let g = fours-at second n second-sized s l k i in
       omega arith)
     where
@@ -86,7 +90,7 @@ module _ (h : Hour) (ok : Sound h) where
       n = length subs
 
       x : List ℕ
-      x = byRow 0 (four (λ s. within s subs (h .metered ⊓ covered h)))
+      x = byRow 0 (four begun)
 
       y : List ℕ
       y = byRow 0 (four first)
@@ -95,7 +99,7 @@ module _ (h : Hour) (ok : Sound h) where
       z = byRow 0 (four second)
 
       x-sized : length x ≡ 4 * n
-      x-sized = fours-sized (λ s. within s subs (h .metered ⊓ covered h)) n begun-sized
+      x-sized = fours-sized begun n begun-sized
 
       y-sized : length y ≡ 4 * n
       y-sized = fours-sized first n first-sized
@@ -104,5 +108,20 @@ module _ (h : Hour) (ok : Sound h) where
       z-sized = fours-sized second n second-sized
 
   -- no figure on the way is above the generation
-  pub begun-le : (s : ℕ) → 1 ≤ s → s ≤ 4 → (i : ℕ) → within s subs (h .metered ⊓ covered h) ! i + first s ! i ≤ sum (h .metered)
-  begun-le s l k i = let a = figure-is s l k i in let b = figure-le h ok s l k i in omega arith
+  module _ (small : sum (h .metered) ≤ 2 * 10 ^ 9) where
+    begun-le : (s : ℕ) → 1 ≤ s → s ≤ 4 → (i : ℕ) → begun s ! i + first s ! i ≤ 2 * 10 ^ 9
+    begun-le s l k i = let a = figure-is s l k i in let b = figure-le h ok s l k i in omega arith
+
+    pub begun-small : Within (byRow 0 (four begun)) (2 ^ 62)
+    begun-small =
+        by-four (byRow 0 (four begun)) (2 ^ 62) (λ s l k i.
+        let a = fours-at begun (length subs) begun-sized s l k i in let b = begun-le s l k i in omega arith)
+
+    pub first-small : Within (byRow 0 (four begun) ⊕ byRow 0 (four first)) (2 ^ 62)
+    first-small =
+        by-four (byRow 0 (four begun) ⊕ byRow 0 (four first)) (2 ^ 62) (λ s l k i.
+        let a = at-⊕ (byRow 0 (four begun)) (byRow 0 (four first)) (s - 1 + i * 4) in
+        let b = fours-at begun (length subs) begun-sized s l k i in
+        let c = fours-at first (length subs) first-sized s l k i in
+        let d = begun-le s l k i in
+        omega arith)

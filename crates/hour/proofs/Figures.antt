@@ -1,12 +1,12 @@
 -- An hour's lists, row by row: the allotment, the nets and the money; column by column, and figure by figure. Assumes nothing.
 use mathlib.Core.Path.{_≡_, refl, sym, ap, _∙_, subst}
-use Prim.Native.Nat.{ℕ, zero, suc, _+_, _-_, _*_, _≤_, _<_}
+use Prim.Native.Nat.{ℕ, _+_, _-_, _*_, _≤_, _<_}
 use native.Mathlib.Omega.{arith}
 use mathlib.Core.List.{List, [], _∷_, map}
 use lib.IntN.{ℤ, pos, subℕ, _*ℤ_, zero-*ℤ}
 use lib.ListN.{length, getD, length-map, List·getD-map}
 use Rattle.lists.specs.Lists.{sum, sumℤ}
-use Rattle.lists.specs.Columns.{rowwise, _⊕_, four, column, byRow}
+use Rattle.lists.specs.Columns.{_⊕_, four, column, byRow}
 use Rattle.lists.proofs.Columns.{_!_, getD-rowwise, length-rowwise, at-⊕, each}
 use Rattle.lists.proofs.Rows.{Even, column-at, column-byRow, length-byRow}
 use Rattle.signed.specs.Figures.{accountsOf}

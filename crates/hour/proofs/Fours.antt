@@ -1,12 +1,13 @@
 -- Lists of four figures a row. Assumes nothing.
-use mathlib.Core.Path.{_≡_, refl, sym, ap, _∙_, subst}
+use mathlib.Core.Path.{_≡_, sym, ap, _∙_, subst}
 use mathlib.Core.List.{List, [], _∷_}
-use Prim.Native.Nat.{ℕ, zero, suc, _+_, _-_, _*_, _/_, _%_, _≤_, _<_}
+use Prim.Native.Nat.{ℕ, _+_, _-_, _*_, _/_, _%_, _≤_, _<_}
 use native.Mathlib.Omega.{arith}
 use lib.ListN.{length, getD, set}
 use lib.Seq.{ext-getD}
-use Rattle.lists.specs.Columns.{_⊕_, four, byRow, column, within, inside}
-use Rattle.lists.proofs.Columns.{_!_, each, length-rowwise, at-⊕, at-within}
+use Rattle.lists.specs.Lists.{Within}
+use Rattle.lists.specs.Columns.{four, byRow, column, within, inside}
+use Rattle.lists.proofs.Columns.{_!_, each, length-rowwise, at-within}
 use Rattle.lists.proofs.Rows.{Even, column-at, column-byRow, length-byRow}
 use Rattle.lists.proofs.Loops.{Tabling, tabling-more}
 
@@ -17,6 +18,15 @@ by-fours n xs ys p q h =
     ext-getD 0 xs ys (p ∙ sym q) (λ j l.
     let e : j ≡ j % 4 + 1 - 1 + j / 4 * 4 = omega arith in
     ap (λ (k : ℕ). xs ! k) e ∙ h (j % 4 + 1) (j / 4) (omega arith) (omega arith) (omega arith) ∙ sym (ap (λ (k : ℕ). ys ! k) e))
+
+-- what bounds the four figures of each row bounds the list
+pub by-four : (xs : List ℕ) (b : ℕ) → ((s : ℕ) → 1 ≤ s → s ≤ 4 → (i : ℕ) → xs ! (s - 1 + i * 4) ≤ b) → Within xs b
+by-four xs b h =
+    record {
+      at = λ j.
+          let e : j ≡ j % 4 + 1 - 1 + j / 4 * 4 = omega arith in
+          subst (λ (m : ℕ). xs ! m ≤ b) (sym e) (h (j % 4 + 1) (omega arith) (omega arith) (j / 4));
+    }
 
 -- four columns of n figures each, row by row
 module _ (f : ℕ → List ℕ) (n : ℕ) (sized : (s : ℕ) → length (f s) ≡ n) where

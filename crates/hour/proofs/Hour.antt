@@ -1,23 +1,23 @@
 -- One hour, by any lawful rule of sharing: columns, rows, zero sum, covered guarantees and surplus. Assumes nothing.
-use mathlib.Core.Path.{_≡_, refl, sym, ap, _∙_, subst}
+use mathlib.Core.Path.{_≡_, refl, sym, ap, _∙_}
 use mathlib.Core.Logic.{_⊎_, inl, inr}
 use mathlib.Core.Bool.{Bool, true, false, cond}
-use Prim.Native.Nat.{ℕ, zero, suc, _+_, _-_, _*_, _/_, min, max, _≤_, _<_}
+use Prim.Native.Nat.{ℕ, zero, _+_, _-_, _*_, _/_, min, _≤_, _<_}
 use native.Mathlib.Omega.{arith}
 use native.Mathlib.Nat.{eq-zero-or-pos, mul-le-mul-left}
 use native.Mathlib.Decide.{decLt}
-use mathlib.Core.List.{List, [], _∷_, map}
+use mathlib.Core.List.{List, []}
 use lib.Dec.{leb, eqb}
-use lib.ListN.{length, getD, length-map, List·getD-eq-default}
+use lib.ListN.{length, length-map, List·getD-eq-default}
 use borrow.Author.Tests.{leb-true, leb-false, eqb-true, eqb-false}
 use Rattle.lists.specs.Columns.{rowwise, _⊕_, _⊖_, _⊓_, joined, inside, beyond, within, outside, four, at, totals}
 use Rattle.lists.specs.Lists.{sum}
 use Rattle.lists.proofs.Columns.{_!_, length-rowwise, at-⊕, at-⊖, at-⊓, each, sum-⊕, sum-le, sum-ext, sum-nil, joined-four, at-within, at-outside, within-ext, within-⊕, in-and-out, Sited, sited-le, quarters, totals-sum, at-totals}
 use Rattle.lists.proofs.Sums.{at-le-sum}
 use Rattle.sharing.specs.Laws.{Lawful}
-use Rattle.sharing.specs.Sharing.{Rule, share}
+use Rattle.sharing.specs.Sharing.{share}
 use Rattle.sharing.proofs.Sharing.{adds-le, share-lawful}
-use Rattle.cover.specs.Cover.{own, ownParts, table, got, rest}
+use Rattle.cover.specs.Cover.{own, got, rest}
 use Rattle.hour.specs.Hour.{Hour, submarkets, modulated, guaranteed, guarantees, secondary, covered, deficit, surplus, leftOver, rights, ownCover, coverTable, coverGot, ownSecondary, secondaryTable, secondaryGot, figure}
 use Rattle.hour.specs.declared.Plant.{Plant}
 use Rattle.cover.proofs.Cover.{Met, met, own-sized, got-sized}

@@ -7,4 +7,5 @@ pub mod Written
 pub mod Fours
 pub mod Allotment
 pub mod Limits
+pub mod Whole
 pub mod Submarkets

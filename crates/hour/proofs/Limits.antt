@@ -1,21 +1,19 @@
 -- An hour in limits is sound, and its sums stay far below 64 bits. Assumes nothing.
-use mathlib.Core.Path.{_≡_, refl, sym, ap, _∙_, subst}
-use mathlib.Core.List.{List, map}
-use Prim.Native.Nat.{ℕ, _+_, _-_, _*_, _^_, _≤_, _<_}
-use native.Mathlib.Nat.{mul-le-mul-left, le-trans}
+use mathlib.Core.Path.{_≡_, sym, ap, _∙_}
+use mathlib.Core.List.{List}
+use Prim.Native.Nat.{ℕ, _-_, _*_, _^_, _≤_, _<_}
+use native.Mathlib.Nat.{le-trans}
 use native.Mathlib.Omega.{arith}
 use lib.IntN.{ℤ}
-use lib.ListN.{length, getD, length-map}
+use lib.ListN.{length, getD}
 use Rattle.lists.specs.Lists.{sum, table, Within}
-use Rattle.lists.proofs.Columns.{_!_}
 use Rattle.lists.proofs.Sums.{at-le-sum, table-getD, table-sum-bound}
 use Rattle.sharing.proofs.Sharing.{share-lawful}
-use Rattle.hour.specs.declared.Plant.{Plant}
 use Rattle.hour.specs.Hour.{Hour, hourOf, submarkets, guarantees}
 use Rattle.hour.specs.Table.{plantsOf}
 use Rattle.hour.specs.Steps.{Ordered, modulationOf, guaranteeOf}
 use Rattle.hour.specs.Work.{Workable}
-use Rattle.hour.proofs.Hour.{Sound}
+use Rattle.hour.proofs.Hour.{Sound, rows-a}
 use Rattle.hour.proofs.Table.{length-plants, plants-submarkets}
 use Rattle.hour.proofs.Profile.{ordered, columns-le, guarantees-columns}
 use Rattle.hour.proofs.Submarkets.{placed-at}
@@ -66,3 +64,6 @@ module _ {ss ns gs ls vs profile : List ℕ} {k : ℕ} {metered lent : List ℕ}
       (let a = columns-le (modulationOf profile k) gs ls vs (modulation-ordered .upper) (w .guarantees) (w .losses) (w .availabilities) (length gs) in
       let b = w .rows in let c = w .equal .guarantees in
       omega arith)
+
+  pub guarantees-sized : length (guarantees h) ≡ length ss
+  guarantees-sized = rows-a h sound ∙ ap length (submarkets-columns ss ns gs ls vs profile metered k)

@@ -1,7 +1,7 @@
 -- Step 1 by running totals of the profile, and steps 1 and 2 on columns. Assumes nothing.
-use mathlib.Core.Path.{_≡_, refl, sym, ap, _∙_}
+use mathlib.Core.Path.{_≡_, sym, ap, _∙_}
 use mathlib.Core.List.{List, [], _∷_, _++_, map}
-use Prim.Native.Nat.{ℕ, zero, suc, _+_, _-_, _*_, _/_, _^_, _≤_, _<_}
+use Prim.Native.Nat.{ℕ, suc, _+_, _-_, _*_, _/_, _^_, _≤_, _<_}
 use native.Mathlib.Nat.{mul-le-mul-left, div-le-of-le-mul, le-trans}
 use native.Mathlib.Omega.{arith}
 use lib.ListN.{length, take, drop, getD, take-append-drop, length-map, List·getD-map}
@@ -9,12 +9,11 @@ use lib.Seq.{take-suc, take-take, ext-getD}
 use Rattle.lists.specs.Lists.{sum, table, Within}
 use Rattle.lists.proofs.Bounds.{scaled}
 use Rattle.lists.proofs.Sums.{table-sum-bound, sum-append, take-le-sum, length-table, getD-table}
-use Rattle.sharing.specs.Sharing.{share}
 use Rattle.sharing.proofs.Sharing.{share-at, up-to-mono}
 use Rattle.hour.specs.declared.Plant.{Plant}
 use Rattle.hour.specs.declared.modulation.Modulation.{Modulation}
 use Rattle.hour.specs.Hour.{Hour, hourOf, modulated, guaranteed, guarantees}
-use Rattle.hour.specs.Table.{plantsOf, Equal}
+use Rattle.hour.specs.Table.{plantsOf}
 use Rattle.hour.specs.Steps.{Ordered, modulationOf, partOf, guaranteeOf}
 use Rattle.hour.proofs.Table.{plant, length-plants, plant-at}
 

@@ -1,10 +1,9 @@
 -- Laws of the records that five columns make. Assumes nothing.
-use mathlib.Core.Path.{_≡_, refl, sym, _∙_, ap}
+use mathlib.Core.Path.{_≡_, refl, _∙_, ap}
 use mathlib.Core.List.{List, [], _∷_, map}
-use Prim.Native.Nat.{ℕ, zero, suc, _+_, _≤_, _<_}
+use Prim.Native.Nat.{ℕ, zero, suc, _<_}
 use native.Mathlib.Nat.{le-of-suc-le-suc, not-suc-le-zero}
-use native.Mathlib.Numerals.{add-one}
-use lib.ListN.{length, drop, getD, drop-of-length-le}
+use lib.ListN.{length, drop, getD}
 use Rattle.hour.specs.declared.Plant.{Plant}
 use Rattle.hour.specs.Table.{plantsOf}
 

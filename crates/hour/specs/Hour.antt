@@ -1,7 +1,7 @@
 -- "One hour": steps 1 to 8. Assumes nothing.
 use Prim.Native.Nat.{ℕ, _-_, _*_, _/_}
 use mathlib.Core.Bool.{cond}
-use mathlib.Core.List.{List, [], _∷_, map}
+use mathlib.Core.List.{List, [], map}
 use lib.Dec.{leb, eqb}
 use lib.IntN.{ℤ, subℕ}
 use Rattle.lists.specs.Columns.{rowwise, _⊕_, _⊖_, _⊓_, within, outside, four, at, totals, byRow}

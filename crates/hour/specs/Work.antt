@@ -8,6 +8,7 @@ use Rattle.lists.specs.Lists.{sum, Within}
 use Rattle.cover.specs.Cover.{Standing}
 use Rattle.hour.specs.Hour.{Hour, guarantees, secondary, coverTable, secondaryTable, nets, allotment}
 use Rattle.hour.specs.Table.{Equal}
+use Rattle.hour.specs.declared.Worked.{Worked}
 
 -- The columns, profile, period and metered figures are in limits, and the lent lists as long as they must be (settle's questions 2, 3, 5 to 10
 -- and 13 to 18 answered yes)
@@ -28,3 +29,12 @@ pub record Workable (ss ns gs ls vs profile : List ℕ) (k : ℕ) (metered lent 
   pub generation : sum metered ≤ 2 * 10 ^ 9
   pub figures : length lent ≡ 4 * length ss
   pub netRows : length lentNets ≡ length ss
+
+-- What an hour leaves: the answer, the allotment list and the nets
+pub record HourWorked (h : Hour) (answer : Worked) (lent : List ℕ) (lentNets : List ℤ) : Type 0 where
+  pub allotted : lent ≡ allotment h
+  pub netted : lentNets ≡ nets h
+  pub secondaryIs : answer .secondary ≡ secondary h
+  pub guaranteesAre : answer .guarantees ≡ sum (guarantees h)
+  pub coverIs : answer .«cover_table» .rows ≡ coverTable h
+  pub againIs : answer .«secondary_table» .rows ≡ secondaryTable h

@@ -11,7 +11,7 @@ use Rattle.lists.proofs.Questions.{asked, parted, both, limits}
 use Rattle.hour.specs.declared.Plant.{Plant}
 use Rattle.ledger.specs.Ledger.{Ledger, inBounds}
 use Rattle.month.specs.declared.Month.{Month}
-use Rattle.month.specs.Questions.{sizesNumber, rowsNumber, lengthsNumber, tablesNumber, openNumber, ownNumber, meteredNumber, balanceNumber}
+use Rattle.month.specs.Questions.{sizesNumber, rowsNumber, lengthsNumber, tablesNumber, openNumber, ownNumber, meteredNumber, boundsNumber, balanceNumber}
 use Rattle.month.specs.Steps.{inputsNumber}
 
 -- 2 to 4
@@ -120,6 +120,11 @@ inputs m plants profile ms lent l k e z =
     let q₅ = parted _ _ (q₁₂ .1) in
     let q₁₄ = parted _ [] (q₅ .1) in
     record { own = own _ _ _ _ refl (q₁₂ .0); tables = tables _ _ _ _ (q₅ .0); meter = metered _ _ _ _ (q₁₄ .0) }
+
+-- ... 19
+pub bounds : (before after : Ledger) (k : ℕ) → k ≡ boundsNumber before after → k ≡ 0 → inBounds before ≡ true
+unfolding boundsNumber
+bounds before after k e z = both _ _ (asked _ _ [] tt (sym e ∙ z) .0) .0
 
 -- balance: 21, 2, 11 and 19
 pub record Balance (m : Month) (l : Ledger) : Type 0 where

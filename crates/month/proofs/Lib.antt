@@ -4,4 +4,5 @@ pub mod Accepted
 pub mod Demand
 pub mod Asked
 pub mod Rows
+pub mod Ends
 pub mod Workable

@@ -17,7 +17,8 @@ use Rattle.signed.proofs.View.{net-abs}
 use Rattle.hour.specs.declared.Plant.{Plant}
 use Rattle.hour.specs.Hour.{Hour, hourOf, figure, covered, rights, allotment, nets}
 use Rattle.hour.specs.Table.{plantsOf, Equal}
-use Rattle.hour.specs.Work.{Workable}
+use Rattle.hour.specs.Work.{Workable, HourWorked}
+use Rattle.hour.specs.declared.Worked.{Worked}
 use Rattle.hour.proofs.Hour.{Sound, figure-le, share-le, whole-sized}
 use Rattle.hour.proofs.Figures.{allotment-at, allotment-sized, at-nets}
 use Rattle.hour.proofs.Limits.{sound}
@@ -27,8 +28,9 @@ use Rattle.ledger.specs.Ledger.{Ledger, inBounds}
 use Rattle.ledger.specs.Posting.{Near, Postable}
 use Rattle.month.specs.declared.Month.{Month}
 use Rattle.month.specs.Questions.{rowNumber, rowsNumber}
+use Rattle.month.specs.Steps.{Ready, inputsNumber}
 use Rattle.month.proofs.Accepted.{rows-standing}
-use Rattle.month.proofs.Asked.{Inputs}
+use Rattle.month.proofs.Asked.{Inputs, inputs}
 
 -- a row's figures in limits (7 and 8)
 record Limited (p : Plant) : Type 0 where
@@ -69,26 +71,42 @@ module _ (ss ns gs ls vs : List ℕ) (same : Equal (length ss) ns gs ls vs) (e :
   availabilities-within : Within vs 1000000
   availabilities-within = record { at = within-rows vs 1000000 (λ i h. limited i (omega (arith, same .availabilities)) .availability) }
 
-module _ (m : Month) (ss ns gs ls vs profile metered : List ℕ) (lent : ℕ) (l : Ledger) (same : Equal (length ss) ns gs ls vs)
-    (q : Inputs m (plantsOf ss ns gs ls vs) profile metered lent l) where
+-- arrays of 2,048 figures and 512 nets have room for the hour
+pub roomy : (m : Month) (ss ns gs ls vs profile metered : List ℕ) (lent : ℕ) (l : Ledger) (k : ℕ)
+    → k ≡ inputsNumber m (plantsOf ss ns gs ls vs) profile metered lent l → k ≡ 0 → (lent ≤ 2048) × (length ss ≤ 512)
+roomy m ss ns gs ls vs profile metered lent l k e z =
+    let q = inputs m (plantsOf ss ns gs ls vs) profile metered lent l k e z in
+    let rows = length-plants ss ns gs ls vs in
+    let own = q .own .rows in
+    let most = q .own .sizes .plants in
+    let figures = q .meter .allotment in
+    (omega arith, omega arith)
+
+module _ {m : Month} {ss ns gs ls vs profile metered lent : List ℕ} {l : Ledger} {figures : List ℕ} {lentNets : List ℤ}
+    (is : Ready m ss ns gs ls vs profile metered lent l figures lentNets) where
+  q : Inputs m (plantsOf ss ns gs ls vs) profile metered (length lent) l
+  q = inputs m (plantsOf ss ns gs ls vs) profile metered (length lent) l 0 (sym (is .asked)) refl
+
   rows : length ss ≡ m .plants
   rows = sym (length-plants ss ns gs ls vs) ∙ q .own .rows
 
-  -- with lists for the figures and the nets of the right length
-  pub workable : (figures : List ℕ) (lentNets : List ℤ) → length figures ≡ lent → length lentNets ≡ length ss
-      → Workable ss ns gs ls vs profile (m .due) metered figures lentNets
-  workable figures lentNets f n =
+  pub due-small : m .due ≤ 744
+  due-small = omega (arith, q .meter .due, q .own .sizes .periods)
+
+  pub workable : Workable ss ns gs ls vs profile (m .due) metered figures lentNets
+  workable =
       let r = rows in
       let s = q .own .sizes in
       let t = q .meter in
+      let accepted = q .tables .rows in
       record {
         some = omega arith;
         rows = omega arith;
-        equal = same;
-        standing = standing ss ns gs ls vs same (q .tables .rows);
-        guarantees = guarantees-within ss ns gs ls vs same (q .tables .rows);
-        losses = losses-within ss ns gs ls vs same (q .tables .rows);
-        availabilities = availabilities-within ss ns gs ls vs same (q .tables .rows);
+        equal = is .equal;
+        standing = standing ss ns gs ls vs (is .equal) accepted;
+        guarantees = guarantees-within ss ns gs ls vs (is .equal) accepted;
+        losses = losses-within ss ns gs ls vs (is .equal) accepted;
+        availabilities = availabilities-within ss ns gs ls vs (is .equal) accepted;
         hourly = record { at = at-most-at profile (2 * 10 ^ 9) (q .tables .figures) };
         periods = omega (arith, q .own .figures);
         whole = q .tables .some;
@@ -96,60 +114,66 @@ module _ (m : Month) (ss ns gs ls vs profile metered : List ℕ) (lent : ℕ) (l
         due = omega (arith, q .own .figures);
         meters = t .meters ∙ sym r;
         generation = omega (arith, t .generation, at-most-at profile (2 * 10 ^ 9) (q .tables .figures) (m .due - 1));
-        figures = omega arith;
-        netRows = n;
+        figures = omega (arith, is .room);
+        netRows = is .netRows;
       }
 
   abbrev h : Hour
   h = hourOf (plantsOf ss ns gs ls vs) profile metered (m .due)
 
+  ok : Sound h
+  ok = sound workable
+
   -- no figure of the hour is above the generation, no net above twice that
-  module _ {figures : List ℕ} {lentNets : List ℤ} (w : Workable ss ns gs ls vs profile (m .due) metered figures lentNets) where
-    ok : Sound h
-    ok = sound w
+  allotment-within : Within (allotment h) (2 * 10 ^ 9)
+  unfolding hourOf
+  allotment-within =
+      record {
+        at = λ j.
+            let g = workable .generation in
+            let a = figure-le h ok (j % 4 + 1) (omega arith) (omega arith) (j / 4) in
+            let place : j % 4 + 1 - 1 + j / 4 * 4 ≡ j = omega arith in
+            let e = ap (λ (k : ℕ). allotment h ! k) place in
+            let f = allotment-at h ok (j % 4 + 1) (omega arith) (omega arith) (j / 4) in
+            omega arith;
+      }
 
-    allotment-within : Within (allotment h) (2 * 10 ^ 9)
-    unfolding hourOf
-    allotment-within =
-        record {
-          at = λ j.
-              let g = w .generation in
-              let a = figure-le h ok (j % 4 + 1) (omega arith) (omega arith) (j / 4) in
-              let place : j % 4 + 1 - 1 + j / 4 * 4 ≡ j = omega arith in
-              let e = ap (λ (k : ℕ). allotment h ! k) place in
-              let f = allotment-at h ok (j % 4 + 1) (omega arith) (omega arith) (j / 4) in
-              omega arith;
-        }
+  nets-near : Near (nets h) (4 * 10 ^ 9)
+  unfolding hourOf
+  nets-near =
+      record {
+        at = λ i.
+            let g = workable .generation in
+            let a = at-le-sum metered i in
+            let b = share-le h ok i in
+            let e = ap natAbs (at-nets h ok i) in
+            let f = net-abs (metered ! i) (covered h ! i) (rights h ! i) in
+            omega arith;
+      }
 
-    nets-near : Near (nets h) (4 * 10 ^ 9)
-    unfolding hourOf
-    nets-near =
-        record {
-          at = λ i.
-              let g = w .generation in
-              let a = at-le-sum metered i in
-              let b = share-le h ok i in
-              let e = ap natAbs (at-nets h ok i) in
-              let f = net-abs (metered ! i) (covered h ! i) (rights h ! i) in
-              omega arith;
-        }
+  nets-sized : length (nets h) ≡ length ss
+  unfolding nets hourOf
+  nets-sized =
+      length-rowwise subℕ 0 0 metered (covered h ⊕ rights h)
+      ∙ (let a = whole-sized h ok in let b = workable .meters in let c = length-plants ss ns gs ls vs in omega arith)
 
-    nets-sized : length (nets h) ≡ length ss
-    unfolding nets hourOf
-    nets-sized =
-        length-rowwise subℕ 0 0 metered (covered h ⊕ rights h)
-        ∙ (let a = whole-sized h ok in let b = w .meters in let c = length-plants ss ns gs ls vs in omega arith)
+  hour-postable : inBounds l ≡ true → Postable l (allotment h) (nets h) (m .tariff)
+  unfolding hourOf
+  hour-postable inside =
+      let r = rows in
+      let t = q .tables .lengths in
+      record {
+        inside = inside;
+        figures = let a = allotment-sized h ok in let b = length-plants ss ns gs ls vs in omega (arith, t .allotted);
+        rows = let a = nets-sized in omega (arith, t .accounts);
+        allotmentSmall = allotment-within;
+        netsSmall = nets-near;
+        tariffSmall = q .own .sizes .tariff;
+      }
 
-    pub postable : inBounds l ≡ true → Postable l (allotment h) (nets h) (m .tariff)
-    unfolding hourOf
-    postable inside =
-        let r = rows in
-        let t = q .tables .lengths in
-        record {
-          inside = inside;
-          figures = let a = allotment-sized h ok in let b = length-plants ss ns gs ls vs in omega (arith, t .allotted);
-          rows = let a = nets-sized in omega (arith, t .accounts);
-          allotmentSmall = allotment-within;
-          netsSmall = nets-near;
-          tariffSmall = q .own .sizes .tariff;
-        }
+  -- the hour as it was worked
+  pub postable : {answer : Worked} {worked : List ℕ} {workedNets : List ℤ} → HourWorked h answer worked workedNets → inBounds l ≡ true
+      → Postable l worked workedNets (m .tariff)
+  postable {workedNets = workedNets} d inside =
+      subst (λ x. Postable l x workedNets (m .tariff)) (sym (d .allotted))
+      (subst (λ y. Postable l (allotment h) y (m .tariff)) (sym (d .netted)) (hour-postable inside))

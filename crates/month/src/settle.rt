@@ -6,16 +6,18 @@ use crate::questions::is_open;
 use crate::questions::sizes_number;
 use crate::questions::tables_number;
 use crate::questions::total;
+use hour::Worked;
 ghost use mathlib.Core.Path.{_≡_};
 ghost use mathlib.Core.Bool.{true};
-ghost use Prim.Native.Nat.{_≤_};
+ghost use Prim.Native.Nat.{_+_, _≤_};
 ghost use lib.ListN.{length};
 ghost use Rattle.hour.specs.Table.{plantsOf, Equal};
 ghost use Rattle.sharing.specs.Calls.{noTable};
 ghost use Rattle.ledger.specs.Ledger.{inBounds, added};
 ghost use Rattle.ledger.specs.Posting.{Postable, hourFigures};
 ghost use Rattle.month.specs.Questions.{ownNumber, meteredNumber, boundsNumber};
-ghost use Rattle.month.specs.Steps.{inputsNumber};
+ghost use Rattle.month.specs.Calls.{SettleEnd, settleCall};
+ghost use Rattle.month.specs.Steps.{Ready, inputsNumber};
 
 // 12, then 2 to 4 for the month's own P, H and TEO, and 13 of the rows and the profile figures lent.
 pub fn own_number(month: Month, rows: u64, figures: u64) -> u64
@@ -117,10 +119,10 @@ pub fn bounds_number(
     if !ledger::in_bounds(allotted, accounts) {
         return 19;
     }
-    if !ledger::in_bounds_after(allotted, accounts, figures, nets, tariff) {
-        return 19;
+    if ledger::in_bounds_after(allotted, accounts, figures, nets, tariff) {
+        return 0;
     }
-    0
+    19
 }
 
 impl Month {
@@ -138,5 +140,116 @@ impl Month {
             cover_table,
             secondary_table,
         }
+    }
+
+    // An accepted settle: the hour's answer, and the next period due.
+    fn settled(mut self, hour: Worked) -> Settled
+        requires { ⌜ self .due ≤ 744 ⌝ }
+        ensures { λ r. ⌜ r ≡ record { number = 0; month = record { stage = self .stage; plants = self .plants; periods = self .periods; tariff = self .tariff; due = self .due + 1 }; secondary = hour .secondary; guarantees = hour .guarantees; «cover_table» = hour .«cover_table»; «secondary_table» = hour .«secondary_table» } ⌝ }
+    {
+        self.due += 1;
+        let cover_table = hour.cover_table;
+        let secondary_table = hour.secondary_table;
+        Settled {
+            number: 0,
+            month: self,
+            secondary: hour.secondary,
+            guarantees: hour.guarantees,
+            cover_table,
+            secondary_table,
+        }
+    }
+
+    // The hour of the period due, with 12 to 18 answered yes: worked into `figures` and `nets`, and written where 19 is answered yes too.
+    fn settle_hour(
+        mut self,
+        submarket: &[u64],
+        number: &[u64],
+        guarantee: &[u64],
+        loss: &[u64],
+        availability: &[u64],
+        profile: &[u64],
+        metered: &[u64],
+        figures: &mut [u64],
+        nets: &mut [i64],
+        allotment: &mut [u64],
+        allotted: &mut [u64],
+        accounts: &mut [i64],
+    ) -> Settled
+        requires { ⌜ Ready self (now submarket) (now number) (now guarantee) (now loss) (now availability) (now profile) (now metered) (now allotment) (record { allotted = now allotted; accounts = now accounts }) (now figures) (now nets) ⌝ }
+        ensures { λ r. ⌜ _≡_ {A = SettleEnd} (record { answer = r; allotment = now (allotment .exit); ledger = record { allotted = now (allotted .exit); accounts = now (accounts .exit) } }) (settleCall self (plantsOf (now (submarket .entry)) (now (number .entry)) (now (guarantee .entry)) (now (loss .entry)) (now (availability .entry))) (now (profile .entry)) (now (metered .entry)) (now (allotment .entry)) (record { allotted = now (allotted .entry); accounts = now (accounts .entry) })) ⌝ }
+    {
+        let hour = hour::work(
+            submarket,
+            number,
+            guarantee,
+            loss,
+            availability,
+            profile,
+            self.due,
+            metered,
+            figures,
+            nets,
+        );
+        let no = bounds_number(allotted, accounts, figures, nets, self.tariff);
+        if no != 0 {
+            return self.unsettled(no);
+        }
+        lists::copy_into(figures, allotment);
+        ledger::post(allotted, accounts, figures, nets, self.tariff);
+        self.settled(hour)
+    }
+
+    // Settle fills the allotment list, adds to the ledger and moves the period on. The plant table comes as five columns, equally long.
+    pub fn settle_columns(
+        mut self,
+        submarket: &[u64],
+        number: &[u64],
+        guarantee: &[u64],
+        loss: &[u64],
+        availability: &[u64],
+        profile: &[u64],
+        metered: &[u64],
+        allotment: &mut [u64],
+        allotted: &mut [u64],
+        accounts: &mut [i64],
+    ) -> Settled
+        requires { ⌜ Equal (length (now submarket)) (now number) (now guarantee) (now loss) (now availability) ⌝ }
+        ensures { λ r. ⌜ _≡_ {A = SettleEnd} (record { answer = r; allotment = now (allotment .exit); ledger = record { allotted = now (allotted .exit); accounts = now (accounts .exit) } }) (settleCall self (plantsOf (now (submarket .entry)) (now (number .entry)) (now (guarantee .entry)) (now (loss .entry)) (now (availability .entry))) (now (profile .entry)) (now (metered .entry)) (now (allotment .entry)) (record { allotted = now (allotted .entry); accounts = now (accounts .entry) })) ⌝ }
+    {
+        let no = inputs_number(
+            self,
+            submarket,
+            number,
+            guarantee,
+            loss,
+            availability,
+            profile,
+            metered,
+            allotment.len() as u64,
+            allotted,
+            accounts,
+        );
+        if no != 0 {
+            return self.unsettled(no);
+        }
+        let mut figures = [0u64; 2048];
+        let mut nets = [0i64; 512];
+        let room = allotment.len();
+        let rows = submarket.len();
+        self.settle_hour(
+            submarket,
+            number,
+            guarantee,
+            loss,
+            availability,
+            profile,
+            metered,
+            &mut figures[..room],
+            &mut nets[..rows],
+            allotment,
+            allotted,
+            accounts,
+        )
     }
 }

@@ -1,0 +1,191 @@
+-- Step 6: givers in order, each sharing what it sent over the needs that are still open. Assumes nothing.
+use mathlib.Core.Path.{_≡_, refl, sym, ap, ap₂, _∙_, subst}
+use mathlib.Core.Bool.{Bool, true, false, cond}
+use mathlib.Core.Logic.{⊎-elim}
+use mathlib.Core.List.{List, [], _∷_, _++_, map}
+use Prim.Native.Nat.{ℕ, zero, suc, _+_, _-_, _*_, _^_, _≤_, _<_, max}
+use native.Mathlib.Nat.{add-zero}
+use native.Mathlib.Numerals.{add-one}
+use native.Mathlib.Omega.{arith}
+use lib.Dec.{eqb}
+use lib.ListN.{length, getD, take, drop, replicate}
+use lib.Seq.{ext-getD, take-all, drop-cons, drop-drop, getD-drop}
+use borrow.Author.Tests.{eq-eqb, ne-eqb}
+use Rattle.lists.specs.Lists.{sum, Within}
+use Rattle.lists.specs.Columns.{_⊖_, Below, within, at, totals}
+use Rattle.lists.proofs.Columns.{_!_, at-⊖, at-totals, within-⊖, sum-⊖, length-rowwise}
+use Rattle.sharing.specs.Sharing.{Rule, share, serve}
+use Rattle.sharing.specs.Laws.{Lawful}
+use Rattle.sharing.proofs.Sharing.{share-lawful}
+use Rattle.cover.specs.Cover.{portion}
+use Rattle.cover.specs.Blocks.{standingAt, Rising, Raised, inColumn, inColumns, gotBy, SentWithin, Room}
+use Rattle.cover.proofs.Cover.{Fits, portion-under, portion-adds}
+use Rattle.cover.proofs.Handed.{split, same-or-not, past-take, next-here, next-there, no-rise}
+
+-- ---- one giver
+module _ {rule : Rule} (L : Lawful rule) (subs amounts want : List ℕ) (fits : (j : ℕ) → amounts ! j ≤ totals subs want ! j) where
+  abbrev p : List ℕ
+  p = portion rule subs amounts want
+
+  as-fits : Fits L subs amounts want
+  as-fits s l h = let a = fits (s - 1) in let b = at-totals subs want s l h in omega arith
+
+  pub parts-under : Below p want
+  parts-under = portion-under L subs amounts want as-fits
+
+  -- the sums of what is still open
+  pub totals-fall : length amounts ≤ 4 → totals subs (want ⊖ p) ≡ totals subs want ⊖ amounts
+  unfolding totals
+  totals-fall short =
+      ext-getD 0 (totals subs (want ⊖ p)) (totals subs want ⊖ amounts)
+      (let a = length-rowwise _-_ 0 0 (totals subs want) amounts in omega arith) (λ i h. go i h ∙ sym (at-⊖ (totals subs want) amounts i))
+    where
+      e : (s : ℕ) → 1 ≤ s → s ≤ 4 → sum (within s subs (want ⊖ p)) ≡ sum (within s subs want) - at s amounts 0
+      e s l h =
+          let a = within-⊖ s subs want p parts-under in
+          let b = portion-adds L subs amounts want as-fits s l h in omega arith
+
+      go : (i : ℕ) → i < 4 → totals subs (want ⊖ p) ! i ≡ totals subs want ! i - amounts ! i
+      go zero h = e 1 (omega arith) (omega arith)
+      go (suc zero) h = e 2 (omega arith) (omega arith)
+      go (suc (suc zero)) h = e 3 (omega arith) (omega arith)
+      go (suc (suc (suc zero))) h = e 4 (omega arith) (omega arith)
+      go (suc (suc (suc (suc i)))) h = absurd (omega arith)
+
+  -- and there is room for it
+  pub room-kept : (columns : List ℕ) {figures after : List ℕ} → Room want figures → Raised (inColumns columns subs p) figures after → Room (want ⊖ p) after
+  room-kept columns room r = record {
+    at = λ i j h.
+        let a = r .by i j h in let b = room .at i j h in let c = at-⊖ want p i in let d = parts-under i in
+        let f = low (eqb j (columns ! (subs ! i - 1))) (p ! i) in omega arith;
+  }
+    where
+      low : (b : Bool) (x : ℕ) → cond b x 0 ≤ x
+      low true x = omega arith
+      low false x = omega arith
+
+-- ---- one giver after the other
+pub record Giving (subs : List ℕ) (table got : List (List ℕ)) (want₀ figures₀ want figures sums : List ℕ) (g : ℕ) : Type 0 where
+  pub turns : g ≤ 4
+  pub same : length want ≡ length want₀
+  pub less : sum want ≤ sum want₀
+  pub left : serve (portion share subs) want (drop g table) ≡ drop g got
+  pub rises : Raised (gotBy (take g got)) figures₀ figures
+  pub still : sums ≡ totals subs want
+  pub sent : SentWithin (drop g table) sums
+  pub room : Room want figures
+
+serve-cons : (subs want row : List ℕ) (rows : List (List ℕ))
+    → serve (portion share subs) want (row ∷ rows) ≡ portion share subs row want ∷ serve (portion share subs) (want ⊖ portion share subs row want) rows
+unfolding serve
+serve-cons subs want row rows = refl
+
+-- whatever its submarket, a row is served from g
+all-from : (g t : ℕ) → t ≤ 4 → (g ∷ g ∷ g ∷ g ∷ []) ! (t - 1) ≡ g
+all-from g zero h = refl
+all-from g (suc zero) h = refl
+all-from g (suc (suc zero)) h = refl
+all-from g (suc (suc (suc zero))) h = refl
+all-from g (suc (suc (suc (suc zero)))) h = refl
+all-from g (suc (suc (suc (suc (suc t))))) h = absurd (omega arith)
+
+pub from-g : (g : ℕ) → g < 4 → Within (g ∷ g ∷ g ∷ g ∷ []) 3
+from-g g h = record { at = go }
+  where
+    go : (i : ℕ) → (g ∷ g ∷ g ∷ g ∷ []) ! i ≤ 3
+    go zero = omega arith
+    go (suc zero) = omega arith
+    go (suc (suc zero)) = omega arith
+    go (suc (suc (suc zero))) = omega arith
+    go (suc (suc (suc (suc i)))) = omega arith
+
+module _ {subs : List ℕ} {table : List (List ℕ)} {want₀ figures₀ sums₀ : List ℕ} where
+  pub giving : sums₀ ≡ totals subs want₀ → SentWithin table sums₀ → Room want₀ figures₀
+      → Giving subs table (serve (portion share subs) want₀ table) want₀ figures₀ want₀ figures₀ sums₀ 0
+  giving e s r =
+      record {
+        turns = omega arith;
+        same = refl;
+        less = omega arith;
+        left = refl;
+        rises = record { same = refl; by = λ i j h. omega arith };
+        still = e;
+        sent = s;
+        room = r;
+      }
+
+module _ {subs : List ℕ} {table got : List (List ℕ)} {want₀ figures₀ want figures sums : List ℕ} {g : ℕ}
+    (k : Giving subs table got want₀ figures₀ want figures sums g) (h : g < 4) (rows : length table ≡ 4) where
+  abbrev row : List ℕ
+  row = getD table g []
+
+  abbrev parts : List ℕ
+  parts = portion share subs row want
+
+  turn : drop g table ≡ row ∷ drop (g + 1) table
+  turn = drop-cons table g [] (omega arith) ∙ ap (λ (n : ℕ). row ∷ drop n table) (sym (add-one g))
+
+  pub row-fits : (s : ℕ) → row ! s ≤ sums ! s
+  unfolding sum
+  row-fits s = let a = k .sent s in let b = ap (λ l. sum (map (λ r. getD r s 0) l)) turn in omega arith
+
+  fits : (s : ℕ) → row ! s ≤ totals subs want ! s
+  fits s = subst (λ l. row ! s ≤ l ! s) (k .still) (row-fits s)
+
+  -- what the rows get from this giver, and what is left to the others
+  next : parts ∷ serve (portion share subs) (want ⊖ parts) (drop (g + 1) table) ≡ drop g got
+  next = sym (serve-cons subs want row (drop (g + 1) table)) ∙ ap (serve (portion share subs) want) (sym turn) ∙ k .left
+
+  got-g : getD got g [] ≡ parts
+  got-g = sym (ap (λ (n : ℕ). getD got n []) (add-zero g)) ∙ sym (getD-drop g got 0 []) ∙ sym (ap (λ l. getD l 0 []) next)
+
+  then-left : serve (portion share subs) (want ⊖ parts) (drop (g + 1) table) ≡ drop (g + 1) got
+  then-left = ap (drop 1) next ∙ drop-drop 1 g got
+
+  module _ (short : length row ≤ 4) (inside : (i : ℕ) → subs ! i ≤ 4) (sized : length parts ≡ length want)
+      {want′ figures′ sums′ : List ℕ} (falls : want′ ≡ want ⊖ parts) (raised : Raised (inColumns (g ∷ g ∷ g ∷ g ∷ []) subs parts) figures figures′)
+      (lower : sums′ ≡ sums ⊖ row) where
+    new-rise : (i j : ℕ) → gotBy (take g got) i j + inColumns (g ∷ g ∷ g ∷ g ∷ []) subs parts i j ≡ gotBy (take (g + 1) got) i j
+    new-rise i j = ⊎-elim here there (same-or-not j g)
+      where
+        from : inColumns (g ∷ g ∷ g ∷ g ∷ []) subs parts i j ≡ inColumn g parts i j
+        from = ap (λ (c : ℕ). inColumn c parts i j) (all-from g (subs ! i) (inside i))
+
+        here : j ≡ g → gotBy (take g got) i j + inColumns (g ∷ g ∷ g ∷ g ∷ []) subs parts i j ≡ gotBy (take (g + 1) got) i j
+        here e =
+            let a : gotBy (take g got) i j ≡ 0 = ap (λ l. l ! i) (past-take [] g got j (omega arith)) in
+            let b : inColumn g parts i j ≡ parts ! i = rw (eq-eqb j g e) refl in
+            let c : gotBy (take (g + 1) got) i j ≡ parts ! i = rw e (ap (λ l. l ! i) (next-here [] got g ∙ got-g)) in
+            let d = from in omega arith
+
+        there : (j ≡ g → ⊥) → gotBy (take g got) i j + inColumns (g ∷ g ∷ g ∷ g ∷ []) subs parts i j ≡ gotBy (take (g + 1) got) i j
+        there e =
+            let b : inColumn g parts i j ≡ 0 = rw (ne-eqb j g e) refl in
+            let c : gotBy (take (g + 1) got) i j ≡ gotBy (take g got) i j = ap (λ l. l ! i) (next-there [] got g j e) in
+            let d = from in omega arith
+
+    new-sent : SentWithin (drop (g + 1) table) sums′
+    unfolding sum
+    new-sent s =
+        let a = k .sent s in let b = ap (λ l. sum (map (λ r. getD r s 0) l)) turn in
+        let c : sums′ ! s ≡ sums ! s - row ! s = ap (λ l. l ! s) lower ∙ at-⊖ sums row s in omega arith
+
+    pub giving-more : Giving subs table got want₀ figures₀ want′ figures′ sums′ (g + 1)
+    giving-more =
+        record {
+          turns = omega arith;
+          same = ap length falls ∙ (let a = length-rowwise _-_ 0 0 want parts in let b = k .same in omega arith);
+          less = let a = ap sum falls in let b = sum-⊖ want parts (parts-under share-lawful subs row want fits) in let c = k .less in omega arith;
+          left = ap (λ w. serve (portion share subs) w (drop (g + 1) table)) falls ∙ then-left;
+          rises = record {
+            same = raised .same ∙ k .rises .same;
+            by = λ i j l. let a = raised .by i j l in let b = k .rises .by i j l in let c = new-rise i j in omega arith;
+          };
+          still = lower ∙ ap (λ l. l ⊖ row) (k .still) ∙ sym (totals-fall share-lawful subs row want fits short) ∙ ap (totals subs) (sym falls);
+          sent = new-sent;
+          room = subst (λ w. Room w figures′) (sym falls) (room-kept share-lawful subs row want fits (g ∷ g ∷ g ∷ g ∷ []) (k .room) raised);
+        }
+
+module _ {subs : List ℕ} {table got : List (List ℕ)} {want₀ figures₀ want figures sums : List ℕ} {g : ℕ} where
+  pub given : Giving subs table got want₀ figures₀ want figures sums g → 4 ≤ g → length got ≡ 4 → Raised (gotBy got) figures₀ figures
+  given k h l = subst (λ c. Raised (gotBy c) figures₀ figures) (take-all g got (omega arith)) (k .rises)

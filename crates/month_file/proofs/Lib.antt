@@ -5,3 +5,4 @@ pub mod Rows
 pub mod Moves
 pub mod Opened
 pub mod Gathered
+pub mod Settled

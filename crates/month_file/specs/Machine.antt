@@ -12,7 +12,7 @@ use Rattle.ledger.specs.Ledger.{Ledger, inBounds}
 use Rattle.month.specs.declared.Month.{Month}
 use Rattle.month.specs.Questions.{rowsNumber}
 use Rattle.month_file.specs.declared.MonthFile.{MonthFile}
-use Rattle.month_file.specs.File.{Progress, begins, gathers, settles, refuses, opened}
+use Rattle.month_file.specs.File.{Progress, begins, gathers, settles, refuses, opened, settled}
 use Rattle.month_file.specs.Bytes.{Reading, isRefused, fed}
 
 -- The lent lists that hold what was read: the plant table's columns, the profile, the ledger
@@ -170,3 +170,8 @@ pub record Openable (f : MonthFile) (k : Kept) : Type 0 where
 unfoldable pub openedOf : MonthFile → Kept → Progress
 openedOf f k =
     opened (f .count + 1) (record { periods = f .periods; plants = f .plants; tariff = f .tariff }) (rowsOf (f .plants) k) (take (f .periods) (k .profile))
+
+-- the period due, settled with the metered figures of its line
+unfoldable pub settledOf : MonthFile → Kept → List ℕ → Progress
+settledOf f k metered =
+    settled (f .count + 1) (rowsOf (f .month .plants) k) (take (f .month .periods) (k .profile)) (f .month) (ledgerOf (f .month .plants) k) metered

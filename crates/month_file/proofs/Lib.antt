@@ -1,0 +1,8 @@
+-- Laws of the month file.
+pub mod Bytes
+pub mod Collected
+pub mod Rows
+pub mod Moves
+pub mod Opened
+pub mod Gathered
+pub mod Settled

@@ -1,0 +1,25 @@
+// A line in turn is taken: what it holds is kept, and the month opened and settled.
+use crate::MonthFile;
+use month::questions::sizes_number;
+ghost use mathlib.Core.Path.{_≡_};
+ghost use Prim.Native.Nat.{_+_};
+ghost use Rattle.month_file.specs.File.{begun};
+ghost use Rattle.month_file.specs.Machine.{Kept, Lent, Moved};
+
+// 2 to 4 on the first line.
+pub fn begun(file: MonthFile, periods: u64, plants: u64, tariff: u64) -> MonthFile
+    requires { ⌜ file .count ≡ 0 ⌝ }
+    ensures { λ r. ⌜ ((k : Kept) → Lent k → Moved file (begun (file .count + 1) (record { periods = periods; plants = plants; tariff = tariff })) r k) ⌝ }
+{
+    let no = sizes_number(plants, periods, tariff);
+    if no != 0 {
+        return file.refused(no);
+    }
+    let mut f = file.at_stage(1);
+    f.periods = periods;
+    f.plants = plants;
+    f.tariff = tariff;
+    f.rows = 0;
+    f.figures = 0;
+    f
+}

@@ -4,13 +4,16 @@
  * nothing between calls, allocate nothing, end on every input, and may be called from any thread.
  *
  * Every call answers a number: 0 when it did what it is for, and otherwise the number of the first question that was
- * answered no (table below). A refusal changes nothing: every list is as it was, and every part of the answer but
- * the number is zero.
+ * answered no (table below). A refusal changes nothing: every list is as it was, the month is the caller's own, and
+ * every other part of the answer but the number is zero.
  *
  * Lists. A list is a pointer and its length, counted in elements. The pointer is never NULL, also where the length is
  * 0; it is aligned for its element. During a call nobody else writes to a list that the call reads, or touches a list
  * that the call writes. So a list that a call writes overlaps none of the call's other lists. What figures a list
  * holds is free: no value in it can do harm.
+ *
+ * The month goes from call to call by value: keep the one that a call hands back, and pass it to the next. It and the
+ * ledger's two lists are all that goes on; plants, profile, metered figures and the allotment list belong to one call.
  */
 #ifndef IOLWARCH_H
 #define IOLWARCH_H
@@ -84,6 +87,85 @@ typedef struct {
     uint64_t number;
     iolwarch_table table;
 } iolwarch_transferred;
+
+/* The month. Stage: 0 blank, 1 open, 2 closed; any other number is read as blank. A month of zeros is a blank one. */
+typedef struct {
+    uint64_t stage;
+    uint64_t plants;  /* P */
+    uint64_t periods; /* H */
+    uint64_t tariff;  /* TEO, in centavos per MWh */
+    uint64_t due;     /* the period due, from 1 */
+} iolwarch_month;
+
+/* The answer of close. */
+typedef struct {
+    uint64_t number;
+    iolwarch_month month;
+} iolwarch_end;
+
+/* The answer of balance: the sum of each submarket's column, of the nets (kWh) and of the money (thousandths of a
+ * centavo). */
+typedef struct {
+    uint64_t number;
+    iolwarch_month month;
+    uint64_t columns[4];
+    int64_t net;
+    int64_t money;
+} iolwarch_sums;
+
+/* The answer of reading a line. Start: 1 "MRE,1,", 2 "P,", 3 "H,", 4 "G,". */
+typedef struct {
+    uint64_t number;
+    uint64_t start;
+    uint64_t fields;
+} iolwarch_line;
+
+/* The answer of the field call: the field is line[start] to line[start + length - 1]. */
+typedef struct {
+    uint64_t number;
+    uint64_t start;
+    uint64_t length;
+} iolwarch_place;
+
+/* The ledger is two lists, row by row: `allotted`, four kWh figures a plant, one for each submarket; `accounts`, two
+ * signed figures a plant, net kWh before money in thousandths of a centavo. For P plants they have 4P and 2P figures.
+ */
+
+/* Sums the ledger. After any list of calls from a blank month the two signed sums are zero.
+ *
+ * Takes    a month that is not blank, and the ledger's lists.
+ * Answers  0, the month as it came and the sums, or 21, 2, 11 or 19.
+ * Leaves   the ledger as it was: it is only read.
+ */
+iolwarch_sums iolwarch_balance(iolwarch_month month,
+                               const uint64_t *allotted, size_t allotted_length,
+                               const int64_t *accounts, size_t accounts_length);
+
+/* Ends the month once its last period is settled.
+ *
+ * Takes    an open month.
+ * Answers  0 and the closed month, or 12, 3 or 20 and the month as it came.
+ * Leaves   nothing changed: it has no list.
+ */
+iolwarch_end iolwarch_close(iolwarch_month month);
+
+/* Reads a line of a month file, its end byte 10 removed.
+ *
+ * Takes    the line's bytes, any bytes, and a list for its figures.
+ * Answers  0, the line's start and its number of fields, or 26 to 30 and zeros.
+ * Leaves   with 0 the figures at the front of the list and the rest of it as it was; otherwise the whole list as it
+ *          was. The line is only read.
+ */
+iolwarch_line iolwarch_read_line(const uint8_t *line, size_t line_length,
+                                 uint64_t *figures, size_t figures_length);
+
+/* Finds a field of a line: fields are parted by commas and counted from 0 at the line's first byte.
+ *
+ * Takes    the line's bytes, any bytes, and the field's index.
+ * Answers  0 and where the field starts and how long it is, or 26 or 28 and zeros.
+ * Leaves   the line as it was: it is only read.
+ */
+iolwarch_place iolwarch_field(const uint8_t *line, size_t line_length, uint64_t index);
 
 /* Shares a total over weights: the i-th part is floor(total x Ci / W) - floor(total x C(i-1) / W), where Ci is the sum
  * of the first i weights and W of all. The parts add up to the total; when the total is at most W, no part exceeds

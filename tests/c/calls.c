@@ -88,10 +88,54 @@ static void transfers(void)
              refused);
 }
 
+/* Close and balance of a month; a refusal hands the month back as it came, a stage that is none of the three too. */
+static void months(void)
+{
+    const iolwarch_month due = {1, 1, 1, 1300, 2};
+    const iolwarch_month early = {1, 1, 1, 1300, 1};
+    const iolwarch_month strange = {7, 1, 1, 1300, 2};
+    const uint64_t allotted[4] = {85, 43, 22, 30};
+    const int64_t accounts[2] = {45, -58500};
+    iolwarch_end end = iolwarch_close(due);
+    iolwarch_sums sums;
+    check(end.number == 0 && end.month.stage == 2 && end.month.due == 2 && end.month.tariff == 1300, "close");
+    end = iolwarch_close(early);
+    check(end.number == 20 && memcmp(&end.month, &early, sizeof early) == 0, "close with a period to settle");
+    end = iolwarch_close(strange);
+    check(end.number == 12 && memcmp(&end.month, &strange, sizeof strange) == 0, "close of a month in no stage");
+    sums = iolwarch_balance(due, allotted, 4, accounts, 2);
+    check(sums.number == 0 && memcmp(sums.columns, allotted, sizeof allotted) == 0, "balance, columns");
+    check(sums.net == 45 && sums.money == -58500 && memcmp(&sums.month, &due, sizeof due) == 0, "balance, net and money");
+    sums = iolwarch_balance(due, allotted, 3, accounts, 2);
+    check(sums.number == 11 && sums.columns[0] == 0 && sums.net == 0 && sums.money == 0, "balance of a short ledger");
+    sums = iolwarch_balance(strange, allotted, 4, accounts, 2);
+    check(sums.number == 21 && memcmp(&sums.month, &strange, sizeof strange) == 0, "balance of a blank month");
+}
+
+/* Reading a line, and a field by its place. */
+static void lines(void)
+{
+    const uint8_t line[] = "P,1,10,100,970000,900000";
+    const size_t length = sizeof line - 1;
+    const uint64_t wanted[6] = {1, 10, 100, 970000, 900000, 7};
+    uint64_t figures[6] = {7, 7, 7, 7, 7, 7};
+    iolwarch_line read = iolwarch_read_line(line, length, figures, 6);
+    iolwarch_place place = iolwarch_field(line, length, 3);
+    check(read.number == 0 && read.start == 2 && read.fields == 5, "read a P line");
+    check(memcmp(figures, wanted, sizeof figures) == 0, "its figures at the front of the list");
+    read = iolwarch_read_line(line, length, figures, 4);
+    check(read.number == 30 && read.start == 0 && read.fields == 0 && figures[0] == 1, "a list too short");
+    check(place.number == 0 && place.start == 7 && place.length == 3, "field 3");
+    place = iolwarch_field(line, length, 6);
+    check(place.number == 28 && place.start == 0 && place.length == 0, "no such field");
+}
+
 int main(void)
 {
     sharing();
     transfers();
+    months();
+    lines();
     printf("%lu passed, %lu failed\n", passed, failed);
     return failed == 0 && passed > 0 ? 0 : 1;
 }

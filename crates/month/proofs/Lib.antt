@@ -1,7 +1,5 @@
--- The ledger adds up over the hours, and demand 3; what answered questions tell; the rows' questions.
-pub mod Sums
+-- What answered questions tell, and the rows' questions.
 pub mod Accepted
-pub mod Demand
 pub mod Asked
 pub mod Rows
 pub mod Ends

@@ -1,6 +1,4 @@
--- Document 01, 'Calls', 'The questions' and 'The tally of a list', as definitions.
+-- Document 01, 'Calls' and 'The questions', as definitions.
 pub mod Questions
 pub mod Calls
 pub mod Steps
-pub mod Tally
-pub mod Worked

@@ -15,15 +15,15 @@ use Rattle.hour.specs.declared.Plant.{Plant}
 use Rattle.hour.specs.Hour.{Hour, hourOf, surplus, coverTable, secondaryTable}
 use Rattle.hour.proofs.Hour.{sent-sum}
 use Rattle.ledger.specs.Ledger.{Ledger, zeros, allottedIn, netColumn, moneyColumn}
 use Rattle.month.specs.declared.Month.{Month}
 use Rattle.month.specs.declared.Balanced.{Balanced}
 use Rattle.month.specs.declared.Ended.{Ended}
 use Rattle.month.specs.declared.Stage.the-variants.{Blank, Open, Closed}
 use Rattle.month.specs.Questions.{isOpen, isBlank, openNumber, settleNumber, closeNumber, balanceNumber, posted}
 use Rattle.month.specs.Calls.{OpenEnd, openCall, SettleEnd, settleCall, balanceCall, closeCall}
-use Rattle.month.specs.Tally.{Call, opens, settles, balances, closes, State, number, next, after, entries, Tally, tallied, tally, worked, hours, summed, netOf, moneyOf, AddsUp, IsTally, Left, sent, Demand3, Demand3·holds}
-use Rattle.month.proofs.Sums.{zeros-add-up, zeros-priced, posted-adds-up, posted-priced}
+use Rattle.demand.specs.Tally.{Call, opens, settles, balances, closes, State, number, next, after, entries, Tally, tallied, tally, worked, hours, summed, netOf, moneyOf, AddsUp, IsTally, Left, sent, Demand3, Demand3·holds}
+use Rattle.demand.proofs.Sums.{zeros-add-up, zeros-priced, posted-adds-up, posted-priced}
 use Rattle.month.proofs.Accepted.{Settles, settle-accepted, close-accepted, balance-accepted}
 
 -- what holds between two calls
 abbrev Inv : State → State → Option Tally → List Hour → Type 0

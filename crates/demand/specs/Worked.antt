@@ -15,10 +15,10 @@ use Rattle.cover.specs.Cover.{portion, own, ownParts, table, got, rest}
 use Rattle.hour.specs.declared.Plant.{Plant}
 use Rattle.hour.specs.Hour.{Hour, hourOf, modulated, guaranteed, submarkets, guarantees, secondary, covered, deficit, surplus, leftOver, rights, ownCover, coverGot, ownSecondary, secondaryGot, coverTable, secondaryTable, figure, nets, allotment, accounts}
 use Rattle.ledger.specs.Ledger.{Ledger, inBounds, zeros, added}
 use Rattle.month.specs.declared.Stage.the-variants.{Blank, Closed}
 use Rattle.month.specs.Questions.{isOpen, isBlank, sizesNumber, placed, numbered, rowNumber, rowsNumber, lengthsNumber, tablesNumber, openNumber, ownNumber, meteredNumber, posted, boundsNumber, settleNumber, closeNumber, balanceNumber}
 use Rattle.month.specs.Calls.{openCall, settleCall, balanceCall, closeCall}
-use Rattle.month.specs.Tally.{Call, opens, settles, balances, closes, State, number, next, after, Entry, entries}
+use Rattle.demand.specs.Tally.{Call, opens, settles, balances, closes, State, number, next, after, Entry, entries}
 
 abbrev plant : ℕ → ℕ → ℕ → Plant
 plant s n q = record { submarket = s; number = n; guarantee = q; loss = 1000000; availability = 1000000 }

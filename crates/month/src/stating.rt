@@ -5,6 +5,7 @@ use crate::Stated;
 use crate::questions::is_blank;
 use crate::questions::lengths_number;
 use crate::questions::rows_number;
+use hour::Plant;
 ghost use mathlib.Core.Path.{_≡_};
 ghost use mathlib.Core.List.{List};
 ghost use Prim.Native.Nat.{_≤_};
@@ -274,5 +275,29 @@ impl Month {
             allotted,
             accounts,
         )
+    }
+
+    // The statement fills the front of the lent bytes and answers its length; the rest stays. The plant table is one lent list of records.
+    pub fn statement(
+        mut self,
+        plants: &[Plant],
+        allotted: &[u64],
+        accounts: &[i64],
+        bytes: &mut [u8],
+    ) -> Stated
+        ensures { λ r. ⌜ _≡_ {A = StatementEnd} (record { answer = r; bytes = now (bytes .exit) }) (statementCall self (now (plants .entry)) (record { allotted = now (allotted .entry); accounts = now (accounts .entry) }) (now (bytes .entry))) ⌝ }
+    {
+        let n = plants.len();
+        let c = records::columns(plants);
+        self.statement_table(n, c, allotted, accounts, bytes)
+    }
+
+    // A size with which the statement is never refused for want of bytes. The plant table is one lent list of records.
+    pub fn statement_size(mut self, plants: &[Plant], allotted: &[u64], accounts: &[i64]) -> Sized
+        ensures { λ r. ⌜ Sizing self (now (plants .entry)) (record { allotted = now (allotted .entry); accounts = now (accounts .entry) }) r ⌝ }
+    {
+        let n = plants.len();
+        let c = records::columns(plants);
+        self.size_table(n, c, allotted, accounts)
     }
 }

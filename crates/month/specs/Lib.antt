@@ -3,5 +3,6 @@ pub mod Questions
 pub mod Calls
 pub mod Steps
 pub mod Statement
+pub mod Example
 pub mod Tally
 pub mod Worked

@@ -1,7 +1,8 @@
--- What answered questions tell, and the rows' questions.
+-- What answered questions tell; the rows' questions; the statement within limits.
 pub mod Accepted
 pub mod Asked
 pub mod Rows
 pub mod Ends
 pub mod Workable
 pub mod Many
+pub mod Statable

@@ -1,4 +1,5 @@
--- Document 01, 'Calls' and 'The questions', as definitions.
+-- Document 01, 'Calls', 'The questions' and the statement call, as definitions.
 pub mod Questions
 pub mod Calls
 pub mod Steps
+pub mod Statement

@@ -7,6 +7,9 @@
 //! is 0 only if nothing failed and something was tried.
 
 mod count;
+mod lent;
+mod lines;
+mod program;
 mod random;
 mod recorder;
 mod script;
@@ -15,7 +18,8 @@ mod transfer;
 
 type Part = (&'static str, fn(&mut count::Count));
 
-const PARTS: [Part; 3] = [("share", share::run), ("transfer", transfer::run), ("scripts", script::run)];
+const PARTS: [Part; 4] =
+    [("share", share::run), ("transfer", transfer::run), ("lines", lines::run), ("scripts", script::run)];
 
 fn main() {
     let asked: Vec<String> = std::env::args().skip(1).collect();

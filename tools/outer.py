@@ -6,11 +6,11 @@
 whose parameters are plain structs by value, u64 numbers, `&[T]`, `&mut [T]` (T = u64 or i64) and one `&[Plant]`. The core takes the
 same parameters in the same order, with n and c where the plants stood. The positions in the walk's context are computed here.
 
-The config (JSON): crate, home (the crate of the types, of columns and of the core, if another), walk (true where home has proofs/Walk.antt), fn, core (paths), result (a struct), params (kind struct/num/rows/shr/mut, name, type or of), uses (use lines),
+The config (JSON): crate, home (the crate of the types, of columns and of the core, if another), types (the module of the structs, if not the crate's root), walk (true where home has proofs/Walk.antt), fn, core (paths), result (a struct), params (kind struct/num/rows/shr/mut, name, type or of), uses (use lines),
 outer_fact and core_fact (the two `ensures`, over the parameters' names, ps, n, zs, r and w<i>, the last list of the &mut parameter i), and
 carry: the term that proves outer_fact from `wrote : zs ≡ putRows zeros 0 (take 512 ps)` and `e : core_fact`; {w<i>} stands for a last list.
 """
-import json, sys
+import json, re, sys
 
 def lst(xs): return " ∷ ".join(xs + ["[]"])
 def tup(xs):
@@ -18,6 +18,17 @@ def tup(xs):
     for x in reversed(xs): s = f"({x}, {s})"
     return s
 def proj(i): return " .1" * i + " .0"
+
+def trimmed(head, body):
+    """The `use` lines of head, each with the names alone that body cites."""
+    words = set(re.split(r"[\s(){},;]+", body))
+    out = []
+    for l in head.split("\n"):
+        if not l.endswith("}"): out.append(l); continue
+        mod, names = l[:l.index("{")], l[l.index("{") + 1:-1].split(", ")
+        kept = [n for n in names if n in words or n.strip("_") in words]
+        if kept: out.append(mod + "{" + ", ".join(kept) + "}")
+    return "\n".join(out)
 
 class Ctx:
     def __init__(self, items): self.items, self.out = list(items), []
@@ -43,6 +54,7 @@ def gen(cfg):
     # a module of the home crate: its own library's name inside the crate, its facade's from another
     spec = (lambda m: f"Rattle.{hm}.specs.{m}") if hm == cr else (lambda m: f"Rattle.{hm}.specs.{m}")
     prf = (lambda m: f"Rattle.{hm}.proofs.{m}") if hm == cr else (lambda m: f"Rattle.{hm}.proofs.{m}")
+    within = lambda s: ".".join([*cfg.get("types", []), s])
     mod = ".".join(cfg["fn"]); core = ".".join(cfg["core"]); nm = cfg["fn"][-1].replace("_", "-").strip("«»")
     refs = [i for i, p in enumerate(P) if p["kind"] in ("rows", "shr", "mut")]
     life = {i: j for j, i in enumerate(refs)}; L = len(refs)
@@ -116,14 +128,14 @@ use denote.Exit.{yes}""")
         for l in head.split("\n"):
             if l.endswith("}"): names += l[l.index("{") + 1:-1].split(", ")
         A(f"use {prf('Walk')}.{{{', '.join(names)}}}"); A("use denote.Struct.Laws as LL")
-    else: A(head)
+    else: A("{head}")
     A("use Rattle.hour.specs.declared.Plant.{Plant}")
-    for s in structs: A(f"use {spec('declared.' + s)}.{{{s}}}")
+    for s in structs: A(f"use {spec('declared.' + within(s))}.{{{s}}}")
     for l in cfg["uses"]: A("use " + l)
     A("use Rattle.records.specs.Records.{Held}")
     A("use Rattle.hour.proofs.Plant as Plant-T")
     for s in structs:
-        A(f"use {prf(s)} as {s}-T"); A(f"use {prf(s)}.Laws as {s}-L")
+        A(f"use {prf(within(s))} as {s}-T"); A(f"use {prf(within(s))}.Laws as {s}-L")
     for a, m in (("c", "Rattle.records.proofs.columns"), ("g", prf(core))):
         A(f"use {m} as {a}"); A(f"use {m}.Symbol as {a}-def"); A(f"use {m}.Symbol.{{name as #{a}}}"); A(f"use {m}.Met as {a}-thm")
     A(f"use Rattle.{cr}.proofs.{mod}.Key.{{name as #f}}"); A(f"use Rattle.{cr}.proofs.{mod} as f"); A(f"use Rattle.{cr}.proofs.{mod}.Statement as stated"); A(f"use Rattle.{cr}.proofs.{mod}.Code as code")
@@ -339,7 +351,8 @@ use denote.Exit.{yes}""")
     A(f"  {nm}-meets : Meets 𝓤 H A f.signature (WpFn 𝓤 H (𝓣 .C) (𝓣 .Λ) code.function) (f.spec 𝓤 H A mem run)\n  {nm}-meets =\n      walk-meets 𝓤 H A f.ended stayed W {tup(go)}\n      (f.clauses 𝓤 H A mem run) (WpFn 𝓤 H (𝓣 .C) (𝓣 .Λ) code.function) (WpFn-mono 𝓤 H (W .laws) 𝓣 code.function) {nm}-walks\n")
     key = lambda path: "·".join([hm] + [x.replace("_", "-") for x in path])
     A(f"pub {nm}-spec : {{M : Type 1}} → stated.statement M\nunfolding code.routine tablesOf\n{nm}-spec 𝓤 H 𝓜 𝓖 𝓡 =\n    entered 𝓤 H (tripleOf 𝓤 H (𝓖 .A) f.signature (f.spec 𝓤 H (𝓖 .A) (𝓜 .mem) (𝓡 .run)))\n    (tables 𝓤 H 𝓜 𝓡 code.env .C) (tables 𝓤 H 𝓜 𝓡 code.env .Λ) #f code.function (code.unfolded 𝓤 H 𝓜 𝓡)\n    ({nm}-meets 𝓤 H (𝓖 .A) (givenOf 𝓤 H 𝓜 𝓖) (𝓜 .mem) (𝓡 .run) (tablesOf 𝓤 H 𝓜 (tables 𝓤 H 𝓜 𝓡 code.env))\n    (cited 𝓤 H (Columns 𝓤 H (𝓖 .A) (𝓜 .mem) (𝓡 .run)) 𝓜 𝓡 code.env #c c-def.routine code.calls-records·columns (c-thm.met 𝓤 H 𝓜 𝓖 𝓡))\n    (cited 𝓤 H (Core 𝓤 H (𝓖 .A) (𝓜 .mem) (𝓡 .run)) 𝓜 𝓡 code.env #g g-def.routine code.calls-{key(cfg['core'])} (g-thm.met 𝓤 H 𝓜 𝓖 𝓡)))")
-    return "\n".join(o) + "\n"
+    body = "\n".join(o) + "\n"
+    return body.replace("{head}", trimmed(head, body), 1)
 
 if __name__ == "__main__":
     cfg = json.load(open(sys.argv[1])); open(sys.argv[2], "w").write(gen(cfg))

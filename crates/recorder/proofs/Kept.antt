@@ -1,22 +1,26 @@
 -- Months as a C program keeps them: what each call answers, and the promises of `specs/Laws`. Assumes nothing.
-use mathlib.Core.Path.{_≡_, refl}
+use mathlib.Core.Path.{_≡_, refl, ap, _∙_}
+use mathlib.Core.List.{List}
 use Prim.Native.Nat.{ℕ, zero, suc}
 use borrow.Author.Tests.{eq-eqb, ne-eqb}
 use lib.IntN.{ℤ}
 use Rattle.lists.specs.Questions.{outcome}
 use Rattle.lists.proofs.Questions.{refuses, accepts}
+use Rattle.hour.specs.declared.Plant.{Plant}
 use Rattle.ledger.specs.Ledger.{Ledger}
 use Rattle.month.specs.declared.Month.{Month}
+use Rattle.month.specs.declared.Opened.{Opened}
+use Rattle.month.specs.declared.Settled.{Settled}
 use Rattle.month.specs.declared.Ended.{Ended}
 use Rattle.month.specs.declared.Balanced.{Balanced}
 use Rattle.month.specs.declared.Stage.{Stage}
 use Rattle.month.specs.declared.Stage.the-variants.{Blank, Open, Closed}
-use Rattle.month.specs.Questions.{closeNumber, balanceNumber}
-use Rattle.month.specs.Calls.{balanceCall, closeCall}
+use Rattle.month.specs.Questions.{openNumber, settleNumber, closeNumber, balanceNumber}
+use Rattle.month.specs.Calls.{OpenEnd, openCall, SettleEnd, settleCall, balanceCall, closeCall}
 use Rattle.recorder.specs.declared.months.KeptMonth.{KeptMonth}
 use Rattle.recorder.specs.declared.months.KeptEnd.{KeptEnd}
 use Rattle.recorder.specs.declared.months.KeptBalance.{KeptBalance}
-use Rattle.recorder.specs.Months.{stageOf, stageNumber, monthOf, keptOf, handedBack, closeKept, balanceKept}
+use Rattle.recorder.specs.Months.{stageOf, stageNumber, monthOf, keptOf, handedBack, OpenKeptEnd, openKept, SettleKeptEnd, settleKept, closeKept, balanceKept}
 use Rattle.recorder.specs.Laws.{Months}
 
 -- ---- the stage
@@ -49,6 +53,51 @@ pub back-accepted : (n : ℕ) (k : KeptMonth) (m : Month) {after : KeptMonth} �
 unfolding handedBack
 back-accepted n k m z e = accepts n n _ _ _ refl z e
 
+-- what C gets of what open, and settle, leave inside
+from-opening : KeptMonth → OpenEnd → OpenKeptEnd
+from-opening k y =
+    record { answer = record { number = y .answer .number; month = handedBack (y .answer .number) k (y .answer .month) }; ledger = y .ledger }
+
+pub opens : (k : KeptMonth) (plants : List Plant) (profile : List ℕ) (tariff : ℕ) (l after : Ledger) {m : Month} {x : Opened} {month : KeptMonth} → m ≡ monthOf k
+    → _≡_ {A = OpenEnd} (record { answer = x; ledger = after }) (openCall m plants profile tariff l) → month ≡ handedBack (x .number) k (x .month)
+    → _≡_ {A = OpenKeptEnd} (record { answer = record { number = x .number; month = month }; ledger = after }) (openKept k plants profile tariff l)
+unfolding openKept from-opening
+opens k plants profile tariff l after p e r = rw r (ap (from-opening k) (e ∙ ap (λ (m : Month). openCall m plants profile tariff l) p))
+
+from-settling : KeptMonth → SettleEnd → SettleKeptEnd
+from-settling k y =
+    record {
+      answer = record {
+        number = y .answer .number;
+        month = handedBack (y .answer .number) k (y .answer .month);
+        secondary = y .answer .secondary;
+        guarantees = y .answer .guarantees;
+        «cover_table» = y .answer .«cover_table»;
+        «secondary_table» = y .answer .«secondary_table»;
+      };
+      allotment = y .allotment;
+      ledger = y .ledger;
+    }
+
+pub settles : (k : KeptMonth) (plants : List Plant) (profile metered lent allotment : List ℕ) (l after : Ledger) {m : Month} {x : Settled} {month : KeptMonth} → m ≡ monthOf k
+    → _≡_ {A = SettleEnd} (record { answer = x; allotment = allotment; ledger = after }) (settleCall m plants profile metered lent l) → month ≡ handedBack (x .number) k (x .month)
+    → _≡_ {A = SettleKeptEnd}
+    (record {
+      answer = record {
+        number = x .number;
+        month = month;
+        secondary = x .secondary;
+        guarantees = x .guarantees;
+        «cover_table» = x .«cover_table»;
+        «secondary_table» = x .«secondary_table»;
+      };
+      allotment = allotment;
+      ledger = after;
+    })
+    (settleKept k plants profile metered lent l)
+unfolding settleKept from-settling
+settles k plants profile metered lent allotment l after p e r = rw r (ap (from-settling k) (e ∙ ap (λ (m : Month). settleCall m plants profile metered lent l) p))
+
 pub closes : (k : KeptMonth) {m : Month} {end : Ended} {after : KeptMonth} → m ≡ monthOf k → end ≡ closeCall m → after ≡ handedBack (end .number) k (end .month)
     → _≡_ {A = KeptEnd} (record { number = end .number; month = after }) (closeKept k)
 unfolding closeKept
@@ -64,6 +113,26 @@ balances k l p q r s = rw (r, s, q, p)
 back : (m : Month) → monthOf (keptOf m) ≡ m
 unfolding monthOf keptOf
 back m = rw (stage-back (m .stage))
+
+opened : (k : KeptMonth) (plants : List Plant) (profile : List ℕ) (tariff : ℕ) (l : Ledger)
+    → monthOf (openKept k plants profile tariff l .answer .month) ≡ openCall (monthOf k) plants profile tariff l .answer .month
+unfolding openKept openCall handedBack outcome
+opened k plants profile tariff l = by (openNumber (monthOf k) plants profile tariff l) refl
+  where
+    by : (n : ℕ) → openNumber (monthOf k) plants profile tariff l ≡ n
+        → monthOf (openKept k plants profile tariff l .answer .month) ≡ openCall (monthOf k) plants profile tariff l .answer .month
+    by zero e = rw e (back _)
+    by (suc n) e = rw e
+
+settled : (k : KeptMonth) (plants : List Plant) (profile metered lent : List ℕ) (l : Ledger)
+    → monthOf (settleKept k plants profile metered lent l .answer .month) ≡ settleCall (monthOf k) plants profile metered lent l .answer .month
+unfolding settleKept settleCall handedBack outcome
+settled k plants profile metered lent l = by (settleNumber (monthOf k) plants profile metered lent l) refl
+  where
+    by : (n : ℕ) → settleNumber (monthOf k) plants profile metered lent l ≡ n
+        → monthOf (settleKept k plants profile metered lent l .answer .month) ≡ settleCall (monthOf k) plants profile metered lent l .answer .month
+    by zero e = rw e (back _)
+    by (suc n) e = rw e
 
 closed : (k : KeptMonth) → monthOf (closeKept k .month) ≡ closeCall (monthOf k) .month
 unfolding closeKept closeCall handedBack outcome
@@ -82,4 +151,4 @@ balanced k l = by (balanceNumber (monthOf k) l) refl
     by (suc n) e = rw e
 
 pub months : Months
-months = record { back = back; closed = closed; balanced = balanced }
+months = record { back = back; opened = opened; settled = settled; closed = closed; balanced = balanced }

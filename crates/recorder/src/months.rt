@@ -1,8 +1,13 @@
 // The month's calls for C. A month with an enum cannot cross: C keeps one whose stage is a number.
+use hour::Plant;
 use month::Month;
 use month::Stage;
+use sharing::Table;
 ghost use mathlib.Core.Path.{_≡_};
-ghost use Rattle.recorder.specs.Months.{stageOf, stageNumber, monthOf, keptOf, handedBack, closeKept, balanceKept};
+ghost use mathlib.Core.List.{List};
+ghost use Rattle.hour.specs.declared.Plant.{Plant};
+ghost use Rattle.records.specs.Records.{Held};
+ghost use Rattle.recorder.specs.Months.{stageOf, stageNumber, monthOf, keptOf, handedBack, OpenKeptEnd, openKept, SettleKeptEnd, settleKept, closeKept, balanceKept};
 
 // A month as the caller keeps it. Stage: 0 blank, 1 open, 2 closed; any other number is read as blank.
 #[repr(C)]
@@ -19,6 +24,17 @@ pub struct KeptMonth {
 pub struct KeptEnd {
     pub number: u64,
     pub month: KeptMonth,
+}
+
+// What settle answers: the number, the month handed back, Z, A and both tables.
+#[repr(C)]
+pub struct KeptSettle {
+    pub number: u64,
+    pub month: KeptMonth,
+    pub secondary: u64,
+    pub guarantees: u64,
+    pub cover_table: Table,
+    pub secondary_table: Table,
 }
 
 // What balance answers: the number, the month handed back, the four column sums, the sum of nets and the sum of money.
@@ -88,6 +104,96 @@ fn handed_back(number: u64, kept: KeptMonth, month: Month) -> KeptMonth
         return kept;
     }
     kept_of(month)
+}
+
+// Open on the columns of n records.
+fn open_kept(
+    month: KeptMonth,
+    n: usize,
+    c: [u64; 2560],
+    profile: &[u64],
+    tariff: u64,
+    allotted: &mut [u64],
+    accounts: &mut [i64],
+) -> KeptEnd
+    ensures { λ r. ⌜ ((plants : List Plant) → Held plants n c → _≡_ {A = OpenKeptEnd} (record { answer = r; ledger = record { allotted = now (allotted .exit); accounts = now (accounts .exit) } }) (openKept month plants (now (profile .entry)) tariff (record { allotted = now (allotted .entry); accounts = now (accounts .entry) }))) ⌝ }
+{
+    let opened = month_of(month).open_table(n, c, profile, tariff, allotted, accounts);
+    let after = opened.month;
+    KeptEnd {
+        number: opened.number,
+        month: handed_back(opened.number, month, after),
+    }
+}
+
+// Month::open.
+#[no_mangle]
+pub extern "C" fn iolwarch_open(
+    month: KeptMonth,
+    plants: &[Plant],
+    profile: &[u64],
+    tariff: u64,
+    allotted: &mut [u64],
+    accounts: &mut [i64],
+) -> KeptEnd
+    ensures { λ r. ⌜ _≡_ {A = OpenKeptEnd} (record { answer = r; ledger = record { allotted = now (allotted .exit); accounts = now (accounts .exit) } }) (openKept month (now (plants .entry)) (now (profile .entry)) tariff (record { allotted = now (allotted .entry); accounts = now (accounts .entry) })) ⌝ }
+{
+    let n = plants.len();
+    let c = records::columns(plants);
+    open_kept(month, n, c, profile, tariff, allotted, accounts)
+}
+
+// Settle on the columns of n records.
+fn settle_kept(
+    month: KeptMonth,
+    n: usize,
+    c: [u64; 2560],
+    profile: &[u64],
+    metered: &[u64],
+    allotment: &mut [u64],
+    allotted: &mut [u64],
+    accounts: &mut [i64],
+) -> KeptSettle
+    ensures { λ r. ⌜ ((plants : List Plant) → Held plants n c → _≡_ {A = SettleKeptEnd} (record { answer = r; allotment = now (allotment .exit); ledger = record { allotted = now (allotted .exit); accounts = now (accounts .exit) } }) (settleKept month plants (now (profile .entry)) (now (metered .entry)) (now (allotment .entry)) (record { allotted = now (allotted .entry); accounts = now (accounts .entry) }))) ⌝ }
+{
+    let settled = month_of(month).settle_table(
+        n,
+        c,
+        profile,
+        metered,
+        allotment,
+        allotted,
+        accounts,
+    );
+    let after = settled.month;
+    let cover_table = settled.cover_table;
+    let secondary_table = settled.secondary_table;
+    KeptSettle {
+        number: settled.number,
+        month: handed_back(settled.number, month, after),
+        secondary: settled.secondary,
+        guarantees: settled.guarantees,
+        cover_table,
+        secondary_table,
+    }
+}
+
+// Month::settle.
+#[no_mangle]
+pub extern "C" fn iolwarch_settle(
+    month: KeptMonth,
+    plants: &[Plant],
+    profile: &[u64],
+    metered: &[u64],
+    allotment: &mut [u64],
+    allotted: &mut [u64],
+    accounts: &mut [i64],
+) -> KeptSettle
+    ensures { λ r. ⌜ _≡_ {A = SettleKeptEnd} (record { answer = r; allotment = now (allotment .exit); ledger = record { allotted = now (allotted .exit); accounts = now (accounts .exit) } }) (settleKept month (now (plants .entry)) (now (profile .entry)) (now (metered .entry)) (now (allotment .entry)) (record { allotted = now (allotted .entry); accounts = now (accounts .entry) })) ⌝ }
+{
+    let n = plants.len();
+    let c = records::columns(plants);
+    settle_kept(month, n, c, profile, metered, allotment, allotted, accounts)
 }
 
 // Month::close.

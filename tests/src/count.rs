@@ -3,8 +3,9 @@
 
 use std::collections::BTreeMap;
 
-/// Failures printed in full, over the whole run.
+/// Failures printed, over the whole run, and how much of each.
 const SHOWN: u64 = 20;
+const CUT: usize = 2_000;
 
 /// How often each call answered each number.
 type Answers = BTreeMap<(&'static str, u64), u64>;
@@ -61,7 +62,7 @@ impl Count {
         self.failed += 1;
         self.part_failed += 1;
         if self.failed <= SHOWN {
-            println!("FAILED {}: {}", self.part, what());
+            println!("FAILED {}: {}", self.part, what().chars().take(CUT).collect::<String>());
         }
     }
 

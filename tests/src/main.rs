@@ -9,17 +9,25 @@
 mod count;
 mod lent;
 mod lines;
+mod lists;
+mod month;
 mod program;
 mod random;
 mod recorder;
 mod script;
 mod share;
+mod tally;
 mod transfer;
 
 type Part = (&'static str, fn(&mut count::Count));
 
-const PARTS: [Part; 4] =
-    [("share", share::run), ("transfer", transfer::run), ("lines", lines::run), ("scripts", script::run)];
+const PARTS: [Part; 5] = [
+    ("share", share::run),
+    ("transfer", transfer::run),
+    ("lines", lines::run),
+    ("scripts", script::run),
+    ("month", month::run),
+];
 
 fn main() {
     let asked: Vec<String> = std::env::args().skip(1).collect();

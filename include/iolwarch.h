@@ -88,6 +88,15 @@ typedef struct {
     iolwarch_table table;
 } iolwarch_transferred;
 
+/* A plant record: submarket 1 to 4, number, monthly guarantee Q in kWh, loss and availability factors in millionths. */
+typedef struct {
+    uint64_t submarket;
+    uint64_t number;
+    uint64_t guarantee;
+    uint64_t loss;
+    uint64_t availability;
+} iolwarch_plant;
+
 /* The month. Stage: 0 blank, 1 open, 2 closed; any other number is read as blank. A month of zeros is a blank one. */
 typedef struct {
     uint64_t stage;
@@ -97,11 +106,21 @@ typedef struct {
     uint64_t due;     /* the period due, from 1 */
 } iolwarch_month;
 
-/* The answer of close. */
+/* The answer of open and of close. */
 typedef struct {
     uint64_t number;
     iolwarch_month month;
 } iolwarch_end;
+
+/* The answer of settle: Z, A (the sum of the guarantees after losses and availability) and both transfer tables. */
+typedef struct {
+    uint64_t number;
+    iolwarch_month month;
+    uint64_t secondary;
+    uint64_t guarantees;
+    iolwarch_table cover_table;
+    iolwarch_table secondary_table;
+} iolwarch_settled;
 
 /* The answer of balance: the sum of each submarket's column, of the nets (kWh) and of the money (thousandths of a
  * centavo). */
@@ -130,6 +149,38 @@ typedef struct {
 /* The ledger is two lists, row by row: `allotted`, four kWh figures a plant, one for each submarket; `accounts`, two
  * signed figures a plant, net kWh before money in thousandths of a centavo. For P plants they have 4P and 2P figures.
  */
+
+/* Opens a month: the ledger is set to zeros, and period 1 is due. A closed month may be opened over.
+ *
+ * Takes    a month that is not open; P plants; the profile, the pool's whole generation in each of H periods; the
+ *          tariff TEO; the ledger's lists, of 4P and 2P figures with any content.
+ * Answers  0 and the open month, or 1 to 11 and the month as it came.
+ * Leaves   with 0 the ledger all zeros; otherwise as it was. Plants and profile are only read.
+ */
+iolwarch_end iolwarch_open(iolwarch_month month,
+                           const iolwarch_plant *plants, size_t plants_length,
+                           const uint64_t *profile, size_t profile_length,
+                           uint64_t tariff,
+                           uint64_t *allotted, size_t allotted_length,
+                           int64_t *accounts, size_t accounts_length);
+
+/* Settles the period due: each plant's kWh are allotted over the four submarkets, and its net and its money posted.
+ *
+ * Takes    an open month; plants and profile again, as many as the month has (a plant is its row, in the submarket
+ *          that this table gives it); P metered figures, which add up to the profile's figure for the period due; an
+ *          allotment list of 4P figures; the ledger's lists.
+ * Answers  0, the month with the next period due, Z, A and both tables, or 2 to 19, the month as it came and zeros.
+ *          The questions are put in this order: 12, 2 to 4, 13, 5 to 11, 14 to 19.
+ * Leaves   with 0 the hour's figures in the allotment list, four a plant, and the ledger with these, the nets and net x
+ *          TEO added; otherwise all three lists as they were. Plants, profile and metered figures are only read.
+ */
+iolwarch_settled iolwarch_settle(iolwarch_month month,
+                                 const iolwarch_plant *plants, size_t plants_length,
+                                 const uint64_t *profile, size_t profile_length,
+                                 const uint64_t *metered, size_t metered_length,
+                                 uint64_t *allotment, size_t allotment_length,
+                                 uint64_t *allotted, size_t allotted_length,
+                                 int64_t *accounts, size_t accounts_length);
 
 /* Sums the ledger. After any list of calls from a blank month the two signed sums are zero.
  *

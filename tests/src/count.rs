@@ -90,14 +90,26 @@ impl Count {
     }
 
     /// The calls put to both programs so far.
-    pub fn calls(&self) -> u64 {
+    fn calls(&self) -> u64 {
         self.answers.values().sum()
+    }
+
+    /// A case of its own: at least `least` calls were put to both programs so far.
+    pub fn compared(&mut self, least: u64) {
+        let calls = self.calls();
+        self.case(calls >= least, || format!("only {} calls compared, {} wanted", calls, least));
     }
 
     /// Prints the calls compared in all and the last line. True if nothing failed and something was tried.
     pub fn finish(&self) -> bool {
         println!("{} calls compared in all", self.calls());
         print_answers(&self.answers);
+        let mut numbers: BTreeMap<u64, u64> = BTreeMap::new();
+        for ((_, number), times) in &self.answers {
+            *numbers.entry(*number).or_insert(0) += times;
+        }
+        let line: String = numbers.iter().map(|(number, times)| format!("  {}: {}", number, times)).collect();
+        println!("each number, with how often it was answered:{}", line);
         println!("{} passed, {} failed", self.passed, self.failed);
         self.failed == 0 && self.passed > 0
     }

@@ -115,7 +115,7 @@ fn generated(count: &mut Count) {
         };
         read(count, &line, &figures(places));
         let commas = line.iter().filter(|&&b| b == b',').count() as u64;
-        let index = random.pick(&[0, 1, commas.saturating_sub(1), commas, commas + 1, u64::MAX]);
+        let index = random.pick(&[0, 1, commas.saturating_sub(1), commas, commas + 1, (1 << 32) + commas, u64::MAX]);
         field(count, &line, index);
         let index = random.between(0, commas + 2);
         field(count, &line, index);
@@ -352,6 +352,8 @@ fn field_limits(count: &mut Count) {
         (28, b"MRE,1,2", 1, 0),
         (28, b"MRE,1,2", 2, 0),
         (28, b"MRE,1,2", 3, 28),
+        (28, b"MRE,1,2", 1 << 32, 28),
+        (28, b"MRE,1,2", (1 << 32) + 2, 28),
         (28, b"MRE,1,2", u64::MAX, 28),
         (28, b",", 1, 0),
         (28, b",", 2, 28),

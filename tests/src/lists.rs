@@ -190,10 +190,11 @@ fn any_month(random: &mut Random, at: &Given) -> Month {
     let near = random.chance(70);
     let mut figure = |likely: &[u64]| {
         let likely = random.pick(likely);
-        if near || random.chance(50) {
-            likely
-        } else {
-            random.sized(64)
+        match random.between(1, 4) {
+            _ if near => likely,
+            1 => likely,
+            2 => likely.wrapping_add(1 << 32),
+            _ => random.sized(64),
         }
     };
     Month {

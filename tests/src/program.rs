@@ -12,14 +12,14 @@ pub fn generated(seed: u64, kind: &str) -> Vec<u8> {
     run(&["gen", &seed.to_string(), kind], b"")
 }
 
-/// The kinds of generated input.
-pub fn kinds() -> Vec<String> {
-    text(run(&["kinds"], b"")).lines().map(str::to_string).collect()
+/// The kinds of generated input whose names begin so.
+pub fn kinds(beginning: &str) -> Vec<String> {
+    text(run(&["kinds"], b"")).lines().filter(|kind| kind.starts_with(beginning)).map(str::to_string).collect()
 }
 
-/// What a script of calls prints. A size is printed with the limit and with the bytes that the statement writes.
+/// What a script of calls prints.
 pub fn calls(script: &[u8]) -> String {
-    text(run(&["calls", "--range"], script))
+    text(run(&["calls"], script))
 }
 
 fn text(bytes: Vec<u8>) -> String {

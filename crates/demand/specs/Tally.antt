@@ -16,6 +16,8 @@ use Rattle.month.specs.declared.Settled.{Settled}
 use Rattle.month.specs.declared.Stage.the-variants.{Blank}
 use Rattle.month.specs.Questions.{posted}
 use Rattle.month.specs.Calls.{openCall, settleCall, balanceCall, closeCall}
+use Rattle.month.specs.Statement.{StatementEnd, statementCall}
+use Rattle.statement.specs.Statement.{statementText}
 
 -- A call, with what it takes besides the month and the ledger
 pub data Call : Type 0 where
@@ -167,3 +169,15 @@ pub record Demand3 (start : State) (calls : List Call) : Type 0 where
 -- ... of every list of calls, from a blank month and any ledger
 abbrev pub Demand3·holds : Type 0
 Demand3·holds = (start : State) → start .month .stage ≡ Blank → (calls : List Call) → Demand3 start calls
+
+-- An accepted statement after a list is that of the tally: 'the count is .. that of the settles accepted since the last accepted opening'
+pub record StatementOfTally (start : State) (calls : List Call) (plants : List Plant) (lent : List ℕ) : Type 0 where
+  pub tallied : Tally
+  pub isTally : tally none (entries start calls) ≡ some tallied
+  pub text : let s = after start calls in
+      let text = statementText (length (hours [] (entries start calls))) plants (tallied .figures) in
+      statementCall (s .month) plants (s .ledger) lent .bytes ≡ text ++ drop (length text) lent
+
+abbrev pub StatementOfTally·holds : Type 0
+StatementOfTally·holds = (start : State) → start .month .stage ≡ Blank → (calls : List Call) (plants : List Plant) (lent : List ℕ)
+    → statementCall (after start calls .month) plants (after start calls .ledger) lent .answer .number ≡ 0 → StatementOfTally start calls plants lent

@@ -21,7 +21,7 @@ use Rattle.month.specs.declared.Ended.{Ended}
 use Rattle.month.specs.declared.Stage.the-variants.{Blank, Open, Closed}
 use Rattle.month.specs.Questions.{isOpen, isBlank, openNumber, settleNumber, closeNumber, balanceNumber, posted}
 use Rattle.month.specs.Calls.{OpenEnd, openCall, SettleEnd, settleCall, balanceCall, closeCall}
-use Rattle.demand.specs.Tally.{Call, opens, settles, balances, closes, State, number, next, after, entries, Tally, tallied, tally, worked, hours, summed, netOf, moneyOf, AddsUp, IsTally, Left, sent, Demand3, Demand3·holds}
+use Rattle.demand.specs.Tally.{Call, opens, settles, balances, closes, State, number, next, after, entries, Tally, tallied, tally, hoursAfter, hours, summed, netOf, moneyOf, AddsUp, IsTally, Left, sent, Demand3, Demand3·holds}
 use Rattle.demand.proofs.Sums.{zeros-add-up, zeros-priced, posted-adds-up, posted-priced}
 use Rattle.month.proofs.Accepted.{Settles, settle-accepted, close-accepted, balance-accepted}
 
@@ -134,8 +134,8 @@ module _ (s : State) (t : Tally) (hs : List Hour) (inv : IsTally s t hs) (plants
 
 -- an accepted call keeps it
 kept : (start s : State) (t : Option Tally) (hs : List Hour) → Inv start s t hs → (c : Call) → number s c ≡ 0
-    → Inv start (changed s c) (tallied t c) (worked hs c)
-unfolding number changed tallied worked summed
+    → Inv start (changed s c) (tallied t c) (hoursAfter hs c)
+unfolding number changed tallied hoursAfter summed
 kept start s none hs inv (opens plants profile tariff) e = record { figures = refl; sums = refl; addsUp = zeros-add-up (length plants); counted = refl; due = refl; tariff = refl; priced = zeros-priced (length plants) tariff }
 kept start s (some t) hs inv (opens plants profile tariff) e = record { figures = refl; sums = refl; addsUp = zeros-add-up (length plants); counted = refl; due = refl; tariff = refl; priced = zeros-priced (length plants) tariff }
 kept start s none hs inv (settles plants profile metered lent) e =
@@ -150,12 +150,12 @@ kept start s (some t) hs inv closes e =
     record { figures = inv .figures; sums = inv .sums; addsUp = inv .addsUp; counted = inv .counted; due = inv .due; tariff = inv .tariff; priced = inv .priced }
 
 step : (start s : State) (t : Option Tally) (hs : List Hour) → Inv start s t hs → (c : Call)
-    → Inv start (next s c) (outcome (number s c) (tallied t c) (λ _. t)) (outcome (number s c) (worked hs c) (λ _. hs))
+    → Inv start (next s c) (outcome (number s c) (tallied t c) (λ _. t)) (outcome (number s c) (hoursAfter hs c) (λ _. hs))
 unfolding outcome
 step start s t hs inv c =
-    subst (λ x. Inv start x (outcome (number s c) (tallied t c) (λ _. t)) (outcome (number s c) (worked hs c) (λ _. hs))) (sym (next-is s c)) (go (number s c) refl)
+    subst (λ x. Inv start x (outcome (number s c) (tallied t c) (λ _. t)) (outcome (number s c) (hoursAfter hs c) (λ _. hs))) (sym (next-is s c)) (go (number s c) refl)
   where
-    go : (n : ℕ) → number s c ≡ n → Inv start (outcome n (changed s c) (λ _. s)) (outcome n (tallied t c) (λ _. t)) (outcome n (worked hs c) (λ _. hs))
+    go : (n : ℕ) → number s c ≡ n → Inv start (outcome n (changed s c) (λ _. s)) (outcome n (tallied t c) (λ _. t)) (outcome n (hoursAfter hs c) (λ _. hs))
     go zero e = kept start s t hs inv c e
     go (suc n) e = inv
 

@@ -55,7 +55,7 @@ pub struct KeptStated {
     pub length: u64,
 }
 
-// What statement_size answers: the number, the month handed back, and as many bytes as a statement never passes.
+// What statement_size answers: the number, the month handed back, and a size in bytes that the statement does not pass.
 #[repr(C)]
 pub struct KeptSized {
     pub number: u64,

@@ -6,3 +6,4 @@ pub mod Moves
 pub mod Opened
 pub mod Gathered
 pub mod Settled
+pub mod Taken

@@ -175,3 +175,10 @@ openedOf f k =
 unfoldable pub settledOf : MonthFile → Kept → List ℕ → Progress
 settledOf f k metered =
     settled (f .count + 1) (rowsOf (f .month .plants) k) (take (f .month .periods) (k .profile)) (f .month) (ledgerOf (f .month .plants) k) metered
+
+-- the figures of a line in turn are as many as its taking reads
+pub record Figured (f : MonthFile) (figures : List ℕ) : Type 0 where
+  pub due : f .stage ≤ 2
+  pub some : 2 ≤ length figures
+  pub sizes : f .stage ≡ 0 → 3 ≤ length figures
+  pub row : f .stage ≡ 1 → f .rows < f .plants → 5 ≤ length figures

@@ -11,6 +11,7 @@ mod gathering;
 mod keeping;
 mod opening;
 mod settling;
+mod taking;
 mod turns;
 
 // How far the file has come. Stages: 0 the first line is due, 1 P and H lines, 2 G lines, 3 refused.

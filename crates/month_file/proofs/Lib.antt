@@ -7,3 +7,4 @@ pub mod Opened
 pub mod Gathered
 pub mod Settled
 pub mod Taken
+pub mod Parts

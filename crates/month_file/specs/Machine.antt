@@ -182,3 +182,23 @@ pub record Figured (f : MonthFile) (figures : List ℕ) : Type 0 where
   pub some : 2 ≤ length figures
   pub sizes : f .stage ≡ 0 → 3 ≤ length figures
   pub row : f .stage ≡ 1 → f .rows < f .plants → 5 ≤ length figures
+
+-- ---- parts of the file
+
+-- the lists that a line is worked in: its bytes, its figures, an hour's allotment
+pub record WorkLists (line figures allotment : List ℕ) : Type 0 where
+  pub bytes : 8192 ≤ length line
+  pub places : length figures ≡ 513
+  pub fours : 4 * 512 ≤ length allotment
+
+-- bytes of a part were taken, up to `to`: the rest of it gives from here on what it gave from `from` on
+pub record Advanced (f : MonthFile) (k : Kept) (line part : List ℕ) (from : ℕ) (r : MonthFile) (q : Kept) (after : List ℕ) (to : ℕ) : Type 0 where
+  pub low : from < to
+  pub high : to ≤ length part
+  pub valid : Valid r q
+  pub same : fed (readingOf f k line) (drop from part) ≡ fed (readingOf r q after) (drop to part)
+
+-- a part was taken: the state and the lists stand for its bytes, one by one
+pub record Fed (f : MonthFile) (k : Kept) (line part : List ℕ) (r : MonthFile) (q : Kept) (after : List ℕ) : Type 0 where
+  pub valid : Valid r q
+  pub stands : readingOf r q after ≡ fed (readingOf f k line) part

@@ -7,6 +7,7 @@ ghost use Rattle.month_file.specs.Machine.{atStage, atRefusal};
 
 mod beginning;
 mod collecting;
+mod feeding;
 mod gathering;
 mod keeping;
 mod opening;

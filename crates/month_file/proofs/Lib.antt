@@ -8,3 +8,5 @@ pub mod Gathered
 pub mod Settled
 pub mod Taken
 pub mod Parts
+pub mod Ends
+pub mod Run

@@ -35,7 +35,7 @@ pub third-stage : (n : ℕ) → n ≤ 2 → (n ≡ 0 → ⊥) → (n ≡ 1 → �
 third-stage n h a b = by-stage n h (λ e. absurd (a e)) (λ e. absurd (b e)) (λ e. e)
 
 module _ (f : MonthFile) (k : Kept) where
-  begins-is : f .stage ≡ 0 → progressOf f k ≡ begins
+  pub begins-is : f .stage ≡ 0 → progressOf f k ≡ begins
   unfolding progressOf
   begins-is e = rw e
 

@@ -5,9 +5,10 @@ ghost use mathlib.Core.Path.{_≡_};
 ghost use Prim.Native.Nat.{_<_};
 ghost use Rattle.month_file.specs.Machine.{atStage, atRefusal};
 
-mod beginning;
+pub mod beginning;
 mod collecting;
-mod feeding;
+pub mod feeding;
+pub mod finishing;
 mod gathering;
 mod keeping;
 mod opening;

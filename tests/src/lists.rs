@@ -206,7 +206,7 @@ fn any_month(random: &mut Random, at: &Given) -> Month {
     }
 }
 
-/// A ledger of any content: inside its bounds, near them, or anywhere.
+/// A ledger of any content: inside its bounds or near them, often with one figure past its bound; or anywhere.
 fn any_ledger(random: &mut Random, at: &mut Given) {
     let (kwh, money) = (second::MAX_KWH, second::MAX_MONEY);
     let anywhere = random.chance(30);
@@ -217,6 +217,14 @@ fn any_ledger(random: &mut Random, at: &mut Given) {
         let bound = if i % 2 == 0 { kwh } else { money } as i64;
         *figure =
             if anywhere { random.next() as i64 } else { random.pick(&[0, 1, -1, bound, -bound, bound - 1, 1 - bound]) };
+    }
+    if random.chance(30) {
+        // Past it before the hour, and often inside after it.
+        at.allotted.fill(0);
+        at.accounts.fill(0);
+        let index = random.between(0, at.accounts.len() as u64 - 1) as usize;
+        let bound = if index % 2 == 0 { kwh } else { money } as i64;
+        at.accounts[index] = random.pick(&[bound + 1, -bound - 1]);
     }
 }
 

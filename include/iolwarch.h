@@ -132,6 +132,20 @@ typedef struct {
     int64_t money;
 } iolwarch_sums;
 
+/* The answer of statement: the statement's length in bytes. */
+typedef struct {
+    uint64_t number;
+    iolwarch_month month;
+    uint64_t length;
+} iolwarch_stated;
+
+/* The answer of statement_size: as many bytes as the statement has, or more, and at most 128P + 128. */
+typedef struct {
+    uint64_t number;
+    iolwarch_month month;
+    uint64_t size;
+} iolwarch_sized;
+
 /* The answer of reading a line. Start: 1 "MRE,1,", 2 "P,", 3 "H,", 4 "G,". */
 typedef struct {
     uint64_t number;
@@ -199,6 +213,38 @@ iolwarch_sums iolwarch_balance(iolwarch_month month,
  * Leaves   nothing changed: it has no list.
  */
 iolwarch_end iolwarch_close(iolwarch_month month);
+
+/* Writes the statement of a month, open or closed: a line for each plant, then the line of the sums, each with its end
+ * byte 10.
+ *
+ *     A,submarket,number,s1,s2,s3,s4,net,money      one for each row: its kWh in each submarket, net kWh, money
+ *     T,periods settled,P,S1,S2,S3,S4,S             the column sums, and S, the sum of them
+ *
+ * Takes    a month that is not blank; plants again, as many as the month has; the ledger's lists; at least 128P + 128
+ *          bytes for the statement.
+ * Answers  0, the month as it came and the statement's length, or 21, 2, 3, 13, 14, 5 to 8, 11, 19 or 22 (put in this
+ *          order), the month as it came and 0.
+ * Leaves   with 0 the statement at the front of the bytes and the rest of them as they were; otherwise all of them as
+ *          they were. Plants and ledger are only read.
+ */
+iolwarch_stated iolwarch_statement(iolwarch_month month,
+                                   const iolwarch_plant *plants, size_t plants_length,
+                                   const uint64_t *allotted, size_t allotted_length,
+                                   const int64_t *accounts, size_t accounts_length,
+                                   uint8_t *bytes, size_t bytes_length);
+
+/* Sizes a statement: with 128P + 128 bytes lent none is refused with 22, and the statement itself is no longer than
+ * the size answered.
+ *
+ * Takes    what statement takes, without the bytes.
+ * Answers  0, the month as it came and a size between the statement's length and 128P + 128, or a number as for
+ *          statement, but never 22, the month as it came and 0.
+ * Leaves   nothing changed: plants and ledger are only read.
+ */
+iolwarch_sized iolwarch_statement_size(iolwarch_month month,
+                                       const iolwarch_plant *plants, size_t plants_length,
+                                       const uint64_t *allotted, size_t allotted_length,
+                                       const int64_t *accounts, size_t accounts_length);
 
 /* Reads a line of a month file, its end byte 10 removed.
  *

@@ -296,6 +296,99 @@ static void example_month(void)
     check(memcmp(l.accounts, accounts2, sizeof accounts2) == 0, "m2: nets and money");
 }
 
+/* The bytes that a statement of three plants asks for. One more lies behind them, which must stay. */
+#define ROOM (128 * ROWS + 128)
+#define MANY 513
+
+static iolwarch_stated state(const lists *l, iolwarch_month month, size_t rows, uint8_t *bytes, size_t room)
+{
+    return iolwarch_statement(month, l->plants, rows, l->allotted, 4 * ROWS, l->accounts, 2 * ROWS, bytes, room);
+}
+
+static iolwarch_sized size_of(const lists *l, iolwarch_month month, size_t rows)
+{
+    return iolwarch_statement_size(month, l->plants, rows, l->allotted, 4 * ROWS, l->accounts, 2 * ROWS);
+}
+
+/* A statement that is written: its bytes at the front, and those behind it as they were; its size in the range. */
+static void written(const char *what, const lists *l, iolwarch_month month, const char *text)
+{
+    const size_t length = strlen(text);
+    const lists before = *l;
+    uint8_t bytes[ROOM + 1];
+    uint8_t wanted[ROOM + 1];
+    iolwarch_sized sized = size_of(l, month, ROWS);
+    iolwarch_stated stated;
+    memset(bytes, 'x', sizeof bytes);
+    memset(wanted, 'x', sizeof wanted);
+    memcpy(wanted, text, length);
+    stated = state(l, month, ROWS, bytes, ROOM);
+    check(stated.number == 0 && stated.length == length && same_month(stated.month, month), what);
+    check(memcmp(bytes, wanted, sizeof bytes) == 0, what);
+    check(sized.number == 0 && same_month(sized.month, month), what);
+    check(length <= sized.size && sized.size <= ROOM, what);
+    check(memcmp(l, &before, sizeof before) == 0, what);
+}
+
+/* Statement and size refused: the number, the month as it came, zeros, and bytes and lists as they were. */
+static void unstated(const char *what, const lists *l, iolwarch_month month, size_t rows, uint64_t number)
+{
+    const lists before = *l;
+    uint8_t bytes[ROOM + 1];
+    uint8_t wanted[ROOM + 1];
+    iolwarch_sized sized = size_of(l, month, rows);
+    iolwarch_stated stated;
+    memset(bytes, 'x', sizeof bytes);
+    memset(wanted, 'x', sizeof wanted);
+    stated = state(l, month, rows, bytes, ROOM);
+    check(stated.number == number && stated.length == 0 && same_month(stated.month, month), what);
+    check(sized.number == number && sized.size == 0 && same_month(sized.month, month), what);
+    check(memcmp(bytes, wanted, sizeof bytes) == 0 && memcmp(l, &before, sizeof before) == 0, what);
+}
+
+/* The example month's statement: opened, settled and closed; a byte too few; and refused, whatever is asked first. */
+static void statements(void)
+{
+    static const char text[] = "A,1,10,85,0,0,0,45,58500\n"
+                               "A,1,11,43,0,0,0,-23,-29900\n"
+                               "A,2,20,22,30,0,0,-22,-28600\n"
+                               "T,1,3,150,30,0,0,180\n";
+    static iolwarch_plant many[MANY];
+    lists l = example();
+    iolwarch_month month = open_rows(&l, (iolwarch_month){0, 0, 0, 0, 0}, ROWS).month;
+    uint8_t bytes[ROOM];
+    uint8_t wanted[ROOM];
+    iolwarch_stated stated;
+    written("no period settled", &l, month,
+            "A,1,10,0,0,0,0,0,0\nA,1,11,0,0,0,0,0,0\nA,2,20,0,0,0,0,0,0\nT,0,3,0,0,0,0,0\n");
+    month = settle(&l, month).month;
+    written("statement before close", &l, month, text);
+    month = iolwarch_close(month).month;
+    written("statement after close", &l, month, text);
+
+    memset(bytes, 'x', sizeof bytes);
+    memset(wanted, 'x', sizeof wanted);
+    stated = state(&l, month, ROWS, bytes, ROOM - 1);
+    check(stated.number == 22 && stated.length == 0 && same_month(stated.month, month), "a byte too few");
+    check(memcmp(bytes, wanted, sizeof bytes) == 0, "22: nothing written");
+    stated = iolwarch_statement(month, many, MANY, l.allotted, 4 * ROWS, l.accounts, 2 * ROWS, bytes, ROOM);
+    check(stated.number == 13 && stated.length == 0 && same_month(stated.month, month), "513 plants");
+    check(memcmp(bytes, wanted, sizeof bytes) == 0, "513 plants: nothing written");
+
+    unstated("statement of a blank month", &l, (iolwarch_month){0, ROWS, 1, 1300, 2}, ROWS, 21);
+    unstated("statement of a month in no stage", &l, (iolwarch_month){7, ROWS, 1, 1300, 2}, ROWS, 21);
+    unstated("statement of no plants", &l, (iolwarch_month){2, 0, 1, 1300, 2}, 0, 2);
+    unstated("statement of 745 periods", &l, (iolwarch_month){2, ROWS, 745, 1300, 2}, ROWS, 3);
+    unstated("statement with a plant too few", &l, month, ROWS - 1, 13);
+    unstated("statement with period 0 due", &l, (iolwarch_month){2, ROWS, 1, 1300, 0}, ROWS, 14);
+    unstated("statement with period H + 2 due", &l, (iolwarch_month){2, ROWS, 1, 1300, 3}, ROWS, 14);
+    unstated("statement with a ledger too long", &l, (iolwarch_month){2, ROWS - 1, 1, 1300, 2}, ROWS - 1, 11);
+    l.allotted[0] = UINT64_C(1488000000001);
+    unstated("statement of a ledger figure past its bound", &l, month, ROWS, 19);
+    l.plants[2].loss = 1000001;
+    unstated("statement with a loss factor past its limit", &l, month, ROWS, 8);
+}
+
 /* Reading a line, and a field by its place. */
 static void lines(void)
 {
@@ -322,6 +415,7 @@ int main(void)
     refusals();
     plant_fields();
     example_month();
+    statements();
     lines();
     printf("%lu passed, %lu failed\n", passed, failed);
     return failed == 0 && passed > 0 ? 0 : 1;

@@ -4,6 +4,7 @@ use mathlib.Core.List.{List}
 use Prim.Native.Nat.{ℕ, zero, suc}
 use borrow.Author.Tests.{eq-eqb, ne-eqb}
 use lib.IntN.{ℤ}
+use lib.ListN.{length}
 use Rattle.lists.specs.Questions.{outcome}
 use Rattle.lists.proofs.Questions.{refuses, accepts}
 use Rattle.hour.specs.declared.Plant.{Plant}
@@ -13,14 +14,18 @@ use Rattle.month.specs.declared.Opened.{Opened}
 use Rattle.month.specs.declared.Settled.{Settled}
 use Rattle.month.specs.declared.Ended.{Ended}
 use Rattle.month.specs.declared.Balanced.{Balanced}
+use Rattle.month.specs.declared.Stated.{Stated}
+use Rattle.month.specs.declared.Sized.{Sized}
 use Rattle.month.specs.declared.Stage.{Stage}
 use Rattle.month.specs.declared.Stage.the-variants.{Blank, Open, Closed}
 use Rattle.month.specs.Questions.{openNumber, settleNumber, closeNumber, balanceNumber}
 use Rattle.month.specs.Calls.{OpenEnd, openCall, SettleEnd, settleCall, balanceCall, closeCall}
+use Rattle.month.specs.Statement.{statementNumber, StatementEnd, statementCall, Sizing}
 use Rattle.recorder.specs.declared.months.KeptMonth.{KeptMonth}
 use Rattle.recorder.specs.declared.months.KeptEnd.{KeptEnd}
 use Rattle.recorder.specs.declared.months.KeptBalance.{KeptBalance}
-use Rattle.recorder.specs.Months.{stageOf, stageNumber, monthOf, keptOf, handedBack, OpenKeptEnd, openKept, SettleKeptEnd, settleKept, closeKept, balanceKept}
+use Rattle.recorder.specs.declared.months.KeptSized.{KeptSized}
+use Rattle.recorder.specs.Months.{stageOf, stageNumber, monthOf, keptOf, handedBack, OpenKeptEnd, openKept, SettleKeptEnd, settleKept, closeKept, balanceKept, StatementKeptEnd, statementKept, SizeKept}
 use Rattle.recorder.specs.Laws.{Months}
 
 -- ---- the stage
@@ -108,6 +113,22 @@ pub balances : (k : KeptMonth) (l : Ledger) {m : Month} {b : Balanced} {net mone
 unfolding balanceKept
 balances k l p q r s = rw (r, s, q, p)
 
+from-stating : KeptMonth → StatementEnd → StatementKeptEnd
+from-stating k y = record { answer = record { number = y .answer .number; month = k; length = y .answer .length }; bytes = y .bytes }
+
+pub states : (k : KeptMonth) (plants : List Plant) (l : Ledger) (lent after : List ℕ) {m : Month} {x : Stated} → m ≡ monthOf k
+    → _≡_ {A = StatementEnd} (record { answer = x; bytes = after }) (statementCall m plants l lent)
+    → _≡_ {A = StatementKeptEnd} (record { answer = record { number = x .number; month = k; length = x .length }; bytes = after }) (statementKept k plants l lent)
+unfolding statementKept from-stating
+states k plants l lent after p e = ap (from-stating k) (e ∙ ap (λ (m : Month). statementCall m plants l lent) p)
+
+pub sizes : (k : KeptMonth) (plants : List Plant) (l : Ledger) {m : Month} {x : Sized} → m ≡ monthOf k → Sizing m plants l x
+    → SizeKept k plants l (record { number = x .number; month = k; size = x .size })
+sizes k plants l {m} {x} p s =
+    let own : Sizing m plants l (record { number = x .number; month = m; size = x .size }) =
+    record { number = s .number; month = refl; refused = s .refused; enough = s .enough; most = s .most } in
+    record { month = refl; sizing = rw (← p) own }
+
 -- ---- the promises
 
 back : (m : Month) → monthOf (keptOf m) ≡ m
@@ -150,5 +171,19 @@ balanced k l = by (balanceNumber (monthOf k) l) refl
     by zero e = rw e
     by (suc n) e = rw e
 
+stated : (k : KeptMonth) (plants : List Plant) (l : Ledger) (lent : List ℕ)
+    → monthOf (statementKept k plants l lent .answer .month) ≡ statementCall (monthOf k) plants l lent .answer .month
+unfolding statementKept statementCall outcome
+stated k plants l lent = by (statementNumber (monthOf k) plants l (length lent)) refl
+  where
+    by : (n : ℕ) → statementNumber (monthOf k) plants l (length lent) ≡ n
+        → monthOf (statementKept k plants l lent .answer .month) ≡ statementCall (monthOf k) plants l lent .answer .month
+    by zero e = rw e
+    by (suc n) e = rw e
+
+sized : (k : KeptMonth) (plants : List Plant) (l : Ledger) (r : KeptSized) → SizeKept k plants l r
+    → Sizing (monthOf k) plants l (record { number = r .number; month = monthOf (r .month); size = r .size })
+sized k plants l r h = rw (h .month) (h .sizing)
+
 pub months : Months
-months = record { back = back; opened = opened; settled = settled; closed = closed; balanced = balanced }
+months = record { back = back; opened = opened; settled = settled; closed = closed; balanced = balanced; stated = stated; sized = sized }

@@ -1,4 +1,5 @@
 -- The month as a C program keeps it. An enum cannot cross, so the stage is a number. Assumes nothing.
+use mathlib.Core.Path.{_≡_}
 use Prim.Native.Nat.{ℕ}
 use mathlib.Core.Bool.{cond}
 use mathlib.Core.List.{List}
@@ -10,10 +11,13 @@ use Rattle.month.specs.declared.Month.{Month}
 use Rattle.month.specs.declared.Stage.{Stage}
 use Rattle.month.specs.declared.Stage.the-variants.{Blank, Open, Closed}
 use Rattle.month.specs.Calls.{openCall, settleCall, balanceCall, closeCall}
+use Rattle.month.specs.Statement.{statementCall, Sizing}
 use Rattle.recorder.specs.declared.months.KeptMonth.{KeptMonth}
 use Rattle.recorder.specs.declared.months.KeptEnd.{KeptEnd}
 use Rattle.recorder.specs.declared.months.KeptSettle.{KeptSettle}
 use Rattle.recorder.specs.declared.months.KeptBalance.{KeptBalance}
+use Rattle.recorder.specs.declared.months.KeptStated.{KeptStated}
+use Rattle.recorder.specs.declared.months.KeptSized.{KeptSized}
 
 -- every number is read as a stage: 1 is open, 2 closed, and any other blank
 unfoldable pub stageOf : ℕ → Stage
@@ -78,3 +82,18 @@ unfoldable pub balanceKept : KeptMonth → Ledger → KeptBalance
 balanceKept k l =
     let r = balanceCall (monthOf k) l in
     record { number = r .number; month = k; columns = r .columns; net = r .net; money = r .money }
+
+-- statement, which changes no month: the answer, and the lent bytes afterwards
+pub record StatementKeptEnd : Type 0 where
+  pub answer : KeptStated
+  pub bytes : List ℕ
+
+unfoldable pub statementKept : KeptMonth → List Plant → Ledger → List ℕ → StatementKeptEnd
+statementKept k plants l lent =
+    let r = statementCall (monthOf k) plants l lent in
+    record { answer = record { number = r .answer .number; month = k; length = r .answer .length }; bytes = r .bytes }
+
+-- statement_size, which changes no month: number and size are a sizing call's inside, whose size is free in its range
+pub record SizeKept (k : KeptMonth) (plants : List Plant) (l : Ledger) (r : KeptSized) : Type 0 where
+  pub month : r .month ≡ k
+  pub sizing : Sizing (monthOf k) plants l (record { number = r .number; month = monthOf k; size = r .size })

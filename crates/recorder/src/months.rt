@@ -7,7 +7,7 @@ ghost use mathlib.Core.Path.{_≡_};
 ghost use mathlib.Core.List.{List};
 ghost use Rattle.hour.specs.declared.Plant.{Plant};
 ghost use Rattle.records.specs.Records.{Held};
-ghost use Rattle.recorder.specs.Months.{stageOf, stageNumber, monthOf, keptOf, handedBack, OpenKeptEnd, openKept, SettleKeptEnd, settleKept, closeKept, balanceKept};
+ghost use Rattle.recorder.specs.Months.{stageOf, stageNumber, monthOf, keptOf, handedBack, OpenKeptEnd, openKept, SettleKeptEnd, settleKept, closeKept, balanceKept, StatementKeptEnd, statementKept, SizeKept};
 
 // A month as the caller keeps it. Stage: 0 blank, 1 open, 2 closed; any other number is read as blank.
 #[repr(C)]
@@ -45,6 +45,22 @@ pub struct KeptBalance {
     pub columns: [u64; 4],
     pub net: i64,
     pub money: i64,
+}
+
+// What statement answers: the number, the month handed back, and the statement's length in bytes.
+#[repr(C)]
+pub struct KeptStated {
+    pub number: u64,
+    pub month: KeptMonth,
+    pub length: u64,
+}
+
+// What statement_size answers: the number, the month handed back, and a size in bytes that the statement does not pass.
+#[repr(C)]
+pub struct KeptSized {
+    pub number: u64,
+    pub month: KeptMonth,
+    pub size: u64,
 }
 
 fn stage_of(number: u64) -> Stage
@@ -227,4 +243,72 @@ pub extern "C" fn iolwarch_balance(
         net: balance.net,
         money: balance.money,
     }
+}
+
+// The statement on the columns of n records.
+fn statement_kept(
+    month: KeptMonth,
+    n: usize,
+    c: [u64; 2560],
+    allotted: &[u64],
+    accounts: &[i64],
+    bytes: &mut [u8],
+) -> KeptStated
+    ensures { λ r. ⌜ ((plants : List Plant) → Held plants n c → _≡_ {A = StatementKeptEnd} (record { answer = r; bytes = now (bytes .exit) }) (statementKept month plants (record { allotted = now (allotted .entry); accounts = now (accounts .entry) }) (now (bytes .entry)))) ⌝ }
+{
+    let stated = month_of(month).statement_table(n, c, allotted, accounts, bytes);
+    KeptStated {
+        number: stated.number,
+        month,
+        length: stated.length,
+    }
+}
+
+// Month::statement.
+#[no_mangle]
+pub extern "C" fn iolwarch_statement(
+    month: KeptMonth,
+    plants: &[Plant],
+    allotted: &[u64],
+    accounts: &[i64],
+    bytes: &mut [u8],
+) -> KeptStated
+    ensures { λ r. ⌜ _≡_ {A = StatementKeptEnd} (record { answer = r; bytes = now (bytes .exit) }) (statementKept month (now (plants .entry)) (record { allotted = now (allotted .entry); accounts = now (accounts .entry) }) (now (bytes .entry))) ⌝ }
+{
+    let n = plants.len();
+    let c = records::columns(plants);
+    statement_kept(month, n, c, allotted, accounts, bytes)
+}
+
+// The size on the columns of n records.
+fn size_kept(
+    month: KeptMonth,
+    n: usize,
+    c: [u64; 2560],
+    allotted: &[u64],
+    accounts: &[i64],
+) -> KeptSized
+    ensures { λ r. ⌜ ((plants : List Plant) → Held plants n c → SizeKept month plants (record { allotted = now (allotted .entry); accounts = now (accounts .entry) }) r) ⌝ }
+{
+    let sized = month_of(month).size_table(n, c, allotted, accounts);
+    KeptSized {
+        number: sized.number,
+        month,
+        size: sized.size,
+    }
+}
+
+// Month::statement_size.
+#[no_mangle]
+pub extern "C" fn iolwarch_statement_size(
+    month: KeptMonth,
+    plants: &[Plant],
+    allotted: &[u64],
+    accounts: &[i64],
+) -> KeptSized
+    ensures { λ r. ⌜ SizeKept month (now (plants .entry)) (record { allotted = now (allotted .entry); accounts = now (accounts .entry) }) r ⌝ }
+{
+    let n = plants.len();
+    let c = records::columns(plants);
+    size_kept(month, n, c, allotted, accounts)
 }

@@ -11,11 +11,13 @@ use Rattle.lists.specs.Questions.{outcome}
 use Rattle.hour.specs.declared.Plant.{Plant}
 use Rattle.hour.specs.Hour.{Hour, hourOf, submarkets, covered, surplus}
 use Rattle.ledger.specs.Ledger.{Ledger, allottedIn, netColumn, moneyColumn, zeros}
 use Rattle.month.specs.declared.Month.{Month}
 use Rattle.month.specs.declared.Settled.{Settled}
 use Rattle.month.specs.declared.Stage.the-variants.{Blank}
 use Rattle.month.specs.Questions.{posted}
 use Rattle.month.specs.Calls.{openCall, settleCall, balanceCall, closeCall}
+use Rattle.month.specs.Statement.{StatementEnd, statementCall}
+use Rattle.statement.specs.Statement.{statementText}
 
 -- A call, with what it takes besides the month and the ledger
 pub data Call : Type 0 where
@@ -79,15 +81,15 @@ tally t [] = t
 tally t (e ∷ es) = tally (outcome (e .answered) (tallied t (e .call)) (λ _. t)) es
 
 -- The hours accepted since the last accepted open, the latest first
-unfoldable pub worked : List Hour → Call → List Hour
-worked hs (opens plants profile tariff) = []
-worked hs (settles plants profile metered lent) = hourOf plants profile metered (length hs + 1) ∷ hs
-worked hs balances = hs
-worked hs closes = hs
+unfoldable pub hoursAfter : List Hour → Call → List Hour
+hoursAfter hs (opens plants profile tariff) = []
+hoursAfter hs (settles plants profile metered lent) = hourOf plants profile metered (length hs + 1) ∷ hs
+hoursAfter hs balances = hs
+hoursAfter hs closes = hs
 
 unfoldable pub hours : List Hour → List Entry → List Hour
 hours hs [] = hs
-hours hs (e ∷ es) = hours (outcome (e .answered) (worked hs (e .call)) (λ _. hs)) es
+hours hs (e ∷ es) = hours (outcome (e .answered) (hoursAfter hs (e .call)) (λ _. hs)) es
 
 -- The figures of hours (the latest first) added to a ledger of zeros for p plants, at a tariff
 unfoldable pub summed : ℕ → ℕ → List Hour → Ledger
@@ -103,11 +105,11 @@ total f (h ∷ hs) = f h + total f hs
 abbrev pub meteredIn : ℕ → Hour → ℕ
 meteredIn s h = sum (within s (submarkets h) (h .metered))
 
-abbrev pub meteredOf : ℕ → Hour → ℕ
-meteredOf i h = getD (h .metered) i 0
+abbrev pub meteredOfRow : ℕ → Hour → ℕ
+meteredOfRow i h = getD (h .metered) i 0
 
-abbrev pub coveredOf : ℕ → Hour → ℕ
-coveredOf i h = getD (covered h) i 0
+abbrev pub coveredOfRow : ℕ → Hour → ℕ
+coveredOfRow i h = getD (covered h) i 0
 
 -- The four figures of row i, added up; its net and its money
 abbrev pub rowAllotted : ℕ → Ledger → ℕ
@@ -122,10 +124,10 @@ moneyOf i l = getD (l .accounts) (2 * i + 1) (pos 0)
 -- A ledger adds up over hours: columns, rows, nets, money, covered guarantees
 pub record AddsUp (l : Ledger) (hs : List Hour) : Type 0 where
   pub columns : (s : ℕ) → 1 ≤ s → s ≤ 4 → sum (allottedIn s l) ≡ total (meteredIn s) hs
-  pub rows : (i : ℕ) → pos (rowAllotted i l) +ℤ netOf i l ≡ pos (total (meteredOf i) hs)
+  pub rows : (i : ℕ) → pos (rowAllotted i l) +ℤ netOf i l ≡ pos (total (meteredOfRow i) hs)
   pub netsZero : sumℤ (netColumn l) ≡ pos 0
   pub moneyZero : sumℤ (moneyColumn l) ≡ pos 0
-  pub coveredMet : (i : ℕ) → total (coveredOf i) hs ≤ rowAllotted i l
+  pub coveredMet : (i : ℕ) → total (coveredOfRow i) hs ≤ rowAllotted i l
 
 -- With an accepted open, the ledger is the tally, and adds up over the hours; the month goes with them
 pub record IsTally (s : State) (t : Tally) (hs : List Hour) : Type 0 where
@@ -167,3 +169,15 @@ pub record Demand3 (start : State) (calls : List Call) : Type 0 where
 -- ... of every list of calls, from a blank month and any ledger
 abbrev pub Demand3·holds : Type 0
 Demand3·holds = (start : State) → start .month .stage ≡ Blank → (calls : List Call) → Demand3 start calls
+
+-- An accepted statement after a list is that of the tally: 'the count is .. that of the settles accepted since the last accepted opening'
+pub record StatementOfTally (start : State) (calls : List Call) (plants : List Plant) (lent : List ℕ) : Type 0 where
+  pub tallied : Tally
+  pub isTally : tally none (entries start calls) ≡ some tallied
+  pub text : let s = after start calls in
+      let text = statementText (length (hours [] (entries start calls))) plants (tallied .figures) in
+      statementCall (s .month) plants (s .ledger) lent .bytes ≡ text ++ drop (length text) lent
+
+abbrev pub StatementOfTally·holds : Type 0
+StatementOfTally·holds = (start : State) → start .month .stage ≡ Blank → (calls : List Call) (plants : List Plant) (lent : List ℕ)
+    → statementCall (after start calls .month) plants (after start calls .ledger) lent .answer .number ≡ 0 → StatementOfTally start calls plants lent

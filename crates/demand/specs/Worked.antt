@@ -15,10 +15,10 @@ use Rattle.cover.specs.Cover.{portion, own, ownParts, table, got, rest}
 use Rattle.hour.specs.declared.Plant.{Plant}
 use Rattle.hour.specs.Hour.{Hour, hourOf, modulated, guaranteed, submarkets, guarantees, secondary, covered, deficit, surplus, leftOver, rights, ownCover, coverGot, ownSecondary, secondaryGot, coverTable, secondaryTable, figure, nets, allotment, accounts}
 use Rattle.ledger.specs.Ledger.{Ledger, inBounds, zeros, added}
 use Rattle.month.specs.declared.Stage.the-variants.{Blank, Closed}
 use Rattle.month.specs.Questions.{isOpen, isBlank, sizesNumber, placed, numbered, rowNumber, rowsNumber, lengthsNumber, tablesNumber, openNumber, ownNumber, meteredNumber, posted, boundsNumber, settleNumber, closeNumber, balanceNumber}
 use Rattle.month.specs.Calls.{openCall, settleCall, balanceCall, closeCall}
-use Rattle.month.specs.Tally.{Call, opens, settles, balances, closes, State, number, next, after, Entry, entries}
+use Rattle.demand.specs.Tally.{Call, opens, settles, balances, closes, State, number, next, after, Entry, entries}
 
 abbrev plant : ℕ → ℕ → ℕ → Plant
 plant s n q = record { submarket = s; number = n; guarantee = q; loss = 1000000; availability = 1000000 }
@@ -26,7 +26,7 @@ plant s n q = record { submarket = s; number = n; guarantee = q; loss = 1000000;
 -- an hour with one period and the plants 10 and 11 of submarket 1 and 20 of submarket 2
 abbrev hour : ℕ → ℕ → ℕ → ℕ → ℕ → ℕ → ℕ → Hour
 hour q₁ q₂ q₃ whole g₁ g₂ g₃ =
-    record { rule = share; plants = plant 1 10 q₁ ∷ plant 1 11 q₂ ∷ plant 2 20 q₃ ∷ []; profile = whole ∷ []; period = 1; metered = g₁ ∷ g₂ ∷ g₃ ∷ [] }
+    hourOf (plant 1 10 q₁ ∷ plant 1 11 q₂ ∷ plant 2 20 q₃ ∷ []) (whole ∷ []) (g₁ ∷ g₂ ∷ g₃ ∷ []) 1
 
 abbrev small : Plant
 small = record { submarket = 1; number = 1; guarantee = 101; loss = 970000; availability = 900000 }
@@ -54,7 +54,7 @@ pub record Worked : Type 0 where
   m2·rights : rights h2 ≡ 14 ∷ 7 ∷ 9 ∷ []
   m2·nets : nets h2 ≡ pos 86 ∷ negsuc 56 ∷ negsuc 28 ∷ []
   m3 : map (λ k. modulated (hourOf (hundred ∷ []) (1 ∷ 1 ∷ 1 ∷ []) (1 ∷ []) k) hundred) (1 ∷ 2 ∷ 3 ∷ []) ≡ 33 ∷ 33 ∷ 34 ∷ []
-  m4 : guaranteed (record { rule = share; plants = small ∷ []; profile = 1 ∷ []; period = 1; metered = 0 ∷ [] }) small ≡ 87
+  m4 : guaranteed (hourOf (small ∷ []) (1 ∷ []) (1 ∷ []) 1) small ≡ 87
   m5 : allotment h5 ≡ 130 ∷ 0 ∷ 0 ∷ 0 ∷ 20 ∷ 0 ∷ 0 ∷ 0 ∷ 0 ∷ 30 ∷ 0 ∷ 0 ∷ []
   m5·nets : nets h5 ≡ pos 0 ∷ pos 0 ∷ pos 0 ∷ []
   -- left 1, 1, 0, 0, need 0, 0, 1, 1: 2 gives 3, then 1 gives 4

@@ -1,29 +1,31 @@
 -- Demand 3: after any list of calls. Assumes nothing.
-use mathlib.Core.Path.{_≡_, refl, sym, ap, _∙_, subst}
+use mathlib.Core.Path.{_≡_, refl, sym, ap, ap₂, _∙_, subst}
 use mathlib.Core.Bool.{true, not, false≢true}
-use Prim.Native.Nat.{ℕ, zero, suc, _+_, _≤_}
+use Prim.Native.Nat.{ℕ, zero, suc, _+_, _-_, _≤_}
 use native.Mathlib.Omega.{arith}
-use mathlib.Core.List.{List, [], _∷_}
+use mathlib.Core.List.{List, [], _∷_, _++_}
 use mathlib.Core.Option.{Option, none, some}
 use lib.IntN.{pos, _*ℤ_}
-use lib.ListN.{length}
+use lib.ListN.{length, drop}
 use Rattle.lists.specs.Lists.{sum, sumℤ}
 use Rattle.lists.specs.Columns.{four, at}
 use Rattle.lists.specs.Questions.{outcome}
-use Rattle.lists.proofs.Questions.{accepted}
+use Rattle.lists.proofs.Questions.{accepted, asked, parted}
 use Rattle.hour.specs.declared.Plant.{Plant}
 use Rattle.hour.specs.Hour.{Hour, hourOf, surplus, coverTable, secondaryTable}
 use Rattle.hour.proofs.Hour.{sent-sum}
 use Rattle.ledger.specs.Ledger.{Ledger, zeros, allottedIn, netColumn, moneyColumn}
 use Rattle.month.specs.declared.Month.{Month}
 use Rattle.month.specs.declared.Balanced.{Balanced}
 use Rattle.month.specs.declared.Ended.{Ended}
 use Rattle.month.specs.declared.Stage.the-variants.{Blank, Open, Closed}
 use Rattle.month.specs.Questions.{isOpen, isBlank, openNumber, settleNumber, closeNumber, balanceNumber, posted}
 use Rattle.month.specs.Calls.{OpenEnd, openCall, SettleEnd, settleCall, balanceCall, closeCall}
-use Rattle.month.specs.Tally.{Call, opens, settles, balances, closes, State, number, next, after, entries, Tally, tallied, tally, worked, hours, summed, netOf, moneyOf, AddsUp, IsTally, Left, sent, Demand3, Demand3·holds}
-use Rattle.month.proofs.Sums.{zeros-add-up, zeros-priced, posted-adds-up, posted-priced}
+use Rattle.month.specs.Statement.{dueNumber, sizingNumber, statementNumber, statementOf, StatementEnd, statementCall}
+use Rattle.statement.specs.Statement.{statementText}
+use Rattle.demand.specs.Tally.{Call, opens, settles, balances, closes, State, number, next, after, entries, Tally, tallied, tally, hoursAfter, hours, summed, netOf, moneyOf, AddsUp, IsTally, Left, sent, Demand3, Demand3·holds, StatementOfTally, StatementOfTally·holds}
+use Rattle.demand.proofs.Sums.{zeros-add-up, zeros-priced, posted-adds-up, posted-priced}
 use Rattle.month.proofs.Accepted.{Settles, settle-accepted, close-accepted, balance-accepted}
 
 -- what holds between two calls
 abbrev Inv : State → State → Option Tally → List Hour → Type 0
@@ -134,8 +136,8 @@ module _ (s : State) (t : Tally) (hs : List Hour) (inv : IsTally s t hs) (plants
 
 -- an accepted call keeps it
 kept : (start s : State) (t : Option Tally) (hs : List Hour) → Inv start s t hs → (c : Call) → number s c ≡ 0
-    → Inv start (changed s c) (tallied t c) (worked hs c)
-unfolding number changed tallied worked summed
+    → Inv start (changed s c) (tallied t c) (hoursAfter hs c)
+unfolding number changed tallied hoursAfter summed
 kept start s none hs inv (opens plants profile tariff) e = record { figures = refl; sums = refl; addsUp = zeros-add-up (length plants); counted = refl; due = refl; tariff = refl; priced = zeros-priced (length plants) tariff }
 kept start s (some t) hs inv (opens plants profile tariff) e = record { figures = refl; sums = refl; addsUp = zeros-add-up (length plants); counted = refl; due = refl; tariff = refl; priced = zeros-priced (length plants) tariff }
 kept start s none hs inv (settles plants profile metered lent) e =
@@ -150,12 +152,12 @@ kept start s (some t) hs inv closes e =
     record { figures = inv .figures; sums = inv .sums; addsUp = inv .addsUp; counted = inv .counted; due = inv .due; tariff = inv .tariff; priced = inv .priced }
 
 step : (start s : State) (t : Option Tally) (hs : List Hour) → Inv start s t hs → (c : Call)
-    → Inv start (next s c) (outcome (number s c) (tallied t c) (λ _. t)) (outcome (number s c) (worked hs c) (λ _. hs))
+    → Inv start (next s c) (outcome (number s c) (tallied t c) (λ _. t)) (outcome (number s c) (hoursAfter hs c) (λ _. hs))
 unfolding outcome
 step start s t hs inv c =
-    subst (λ x. Inv start x (outcome (number s c) (tallied t c) (λ _. t)) (outcome (number s c) (worked hs c) (λ _. hs))) (sym (next-is s c)) (go (number s c) refl)
+    subst (λ x. Inv start x (outcome (number s c) (tallied t c) (λ _. t)) (outcome (number s c) (hoursAfter hs c) (λ _. hs))) (sym (next-is s c)) (go (number s c) refl)
   where
-    go : (n : ℕ) → number s c ≡ n → Inv start (outcome n (changed s c) (λ _. s)) (outcome n (tallied t c) (λ _. t)) (outcome n (worked hs c) (λ _. hs))
+    go : (n : ℕ) → number s c ≡ n → Inv start (outcome n (changed s c) (λ _. s)) (outcome n (tallied t c) (λ _. t)) (outcome n (hoursAfter hs c) (λ _. hs))
     go zero e = kept start s t hs inv c e
     go (suc n) e = inv
 
@@ -236,3 +238,35 @@ demand3 start blank calls =
           sentOut″ start (after start before) (tally none (entries start before)) (hours [] (entries start before)) (run start start none [] (blank, refl) before)
           plants profile metered lent e;
     }
+
+-- an accepted statement is of a month that is not blank, and writes its text
+statement-number : (m : Month) (plants : List Plant) (l : Ledger) (lent : List ℕ) → statementCall m plants l lent .answer .number ≡ statementNumber m plants l (length lent)
+unfolding statementCall
+statement-number m plants l lent = number-is (λ (r : StatementEnd). r .answer .number) (statementNumber m plants l (length lent)) _ _ refl (λ k. refl)
+
+statement-not-blank : (m : Month) (plants : List Plant) (l : Ledger) (n : ℕ) → statementNumber m plants l n ≡ 0 → not (isBlank (m .stage)) ≡ true
+unfolding statementNumber sizingNumber dueNumber
+statement-not-blank m plants l n e = asked _ _ _ tt (parted _ _ (parted _ _ e .0) .0) .0
+
+stated′ : (start s : State) (t? : Option Tally) (hs : List Hour) → Inv start s t? hs → (plants : List Plant) (lent : List ℕ)
+    → statementNumber (s .month) plants (s .ledger) (length lent) ≡ 0
+    → (t : Tally) × (t? ≡ some t)
+    × (let text = statementText (length hs) plants (t .figures) in statementCall (s .month) plants (s .ledger) lent .bytes ≡ text ++ drop (length text) lent)
+unfolding isBlank statementCall statementOf
+stated′ start s none hs inv plants lent e =
+    absurd (false≢true (sym (ap (λ x. not (isBlank x)) (inv .0)) ∙ statement-not-blank (s .month) plants (s .ledger) (length lent) e))
+stated′ start s (some t) hs inv plants lent e =
+    let settled : s .month .due - 1 ≡ length hs = ap (λ n. n - 1) (inv .due) ∙ sub-one (t .count) ∙ inv .counted in
+    let text : statementText (s .month .due - 1) plants (s .ledger) ≡ statementText (length hs) plants (t .figures) =
+    ap₂ (λ n l. statementText n plants l) settled (inv .figures) in
+    (t, refl, ap (λ (x : StatementEnd). x .bytes) (accepted (statementNumber (s .month) plants (s .ledger) (length lent)) _ _ e) ∙ ap (λ x. x ++ drop (length x) lent) text)
+  where
+    sub-one : (n : ℕ) → n + 1 - 1 ≡ n
+    sub-one n = omega arith
+
+pub statement-of-tally : StatementOfTally·holds
+statement-of-tally start blank calls plants lent e =
+    let s = after start calls in
+    let r = stated′ start s (tally none (entries start calls)) (hours [] (entries start calls)) (run start start none [] (blank, refl) calls) plants lent
+    (sym (statement-number (s .month) plants (s .ledger) lent) ∙ e) in
+    record { tallied = r .0; isTally = r .1; text = r .2 }

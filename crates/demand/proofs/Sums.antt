@@ -15,8 +15,8 @@ use Rattle.hour.specs.Hour.{Hour, submarkets, covered, rights, figure, nets, al
 use Rattle.hour.proofs.Hour.{Sound, column-sum}
 use Rattle.hour.proofs.Figures.{hour-column, hour-row, net-column, money-column, nets-sum, at-nets, net-at, money-at}
 use Rattle.ledger.specs.Ledger.{Ledger, zeros, added, allottedIn, netColumn, moneyColumn}
 use Rattle.month.specs.Questions.{posted}
-use Rattle.month.specs.Tally.{total, meteredIn, meteredOf, coveredOf, rowAllotted, netOf, moneyOf, AddsUp}
+use Rattle.demand.specs.Tally.{total, meteredIn, meteredOfRow, coveredOfRow, rowAllotted, netOf, moneyOf, AddsUp}
 
 -- the four figures of row i, by columns
 row-is : (l : List ℕ) (i : ℕ) → sum (take 4 (drop (4 * i) l)) ≡ column 4 0 l ! i + column 4 1 l ! i + column 4 2 l ! i + column 4 3 l ! i

@@ -1,5 +1,5 @@
-//! Month files, generated and of examples/, read and settled through the recorder's calls: at the end ledger and balance
-//! are the figures of the statement that the second program writes (01, 'The file and its statement').
+//! Month files, generated and of examples/, read, settled and stated through the recorder's calls: the statement is,
+//! byte for byte, the one that the second program writes (01, 'The file and its statement').
 
 use crate::count::Count;
 use crate::program;
@@ -55,7 +55,7 @@ impl Lines<'_> {
     }
 }
 
-/// The whole month; what it answers is written as a statement.
+/// The whole month, up to its statement.
 fn settled(count: &mut Count, file: &[u8]) -> Result<String, String> {
     let mut lines = Lines { lines: file.split(|&b| b == b'\n') };
     let first = lines.next(1)?;
@@ -93,20 +93,17 @@ fn accepted(call: &str, number: u64) -> Result<(), String> {
     }
 }
 
-/// The A lines from the ledger, the T line from the balance.
+/// The recorder's statement, in as many bytes as 22 asks for and in bounds that the sizing call gives.
 fn statement(month: Month, plants: &[Plant], allotted: &[u64], accounts: &[i64]) -> Result<String, String> {
-    let sums = recorder::balance(month, allotted, accounts);
-    accepted("balance", sums.number)?;
-    let mut out = String::new();
-    for (row, plant) in plants.iter().enumerate() {
-        let [f1, f2, f3, f4] = allotted[4 * row..4 * row + 4] else { unreachable!("four figures a plant") };
-        let (net, money) = (accounts[2 * row], accounts[2 * row + 1]);
-        out += &format!("A,{},{},{},{},{},{},{},{}\n", plant.submarket, plant.number, f1, f2, f3, f4, net, money);
+    let enough = 128 * plants.len() + 128;
+    let sized = recorder::size(month, plants, allotted, accounts);
+    accepted("size", sized.number)?;
+    let mut bytes = vec![b'.'; enough];
+    let stated = recorder::statement(month, plants, allotted, accounts, &mut bytes);
+    accepted("statement", stated.number)?;
+    if stated.length > sized.size || sized.size > enough as u64 {
+        return Err(format!("{} bytes written, the size is {}", stated.length, sized.size));
     }
-    let [c1, c2, c3, c4] = sums.columns;
-    out += &format!("T,{},{},{},{},{},{},{}\n", month.due - 1, month.plants, c1, c2, c3, c4, c1 + c2 + c3 + c4);
-    match (sums.net, sums.money) {
-        (0, 0) => Ok(out),
-        other => Err(format!("nets and money add up to {:?}", other)),
-    }
+    bytes.truncate(stated.length as usize);
+    String::from_utf8(bytes).map_err(|_| "not plain text".to_string())
 }

@@ -17,9 +17,9 @@ pub fn kinds(beginning: &str) -> Vec<String> {
     text(run(&["kinds"], b"")).lines().filter(|kind| kind.starts_with(beginning)).map(str::to_string).collect()
 }
 
-/// What a script of calls prints.
+/// What a script of calls prints. A size is printed with the limit and with the bytes that the statement writes.
 pub fn calls(script: &[u8]) -> String {
-    text(run(&["calls"], script))
+    text(run(&["calls", "--range"], script))
 }
 
 /// The statement of a month file, or its refusal.

@@ -2,7 +2,14 @@
 //! paper's own.
 
 use crate::count::Count;
-use crate::recorder::{self, End, Month, Plant, Sums, Table};
+use crate::recorder::{self, End, Month, Plant, Stated, Sums, Table};
+
+/// The example's output, whole.
+const STATEMENT: &[u8] = b"A,1,10,85,0,0,0,45,58500
+A,1,11,43,0,0,0,-23,-29900
+A,2,20,22,30,0,0,-22,-28600
+T,1,3,150,30,0,0,180
+";
 
 const NOTHING: [[u64; 4]; 4] = [[0; 4]; 4];
 
@@ -126,7 +133,7 @@ fn settled(count: &mut Count, hour: &Hour) {
     count.tried("hours of 01 worked by hand, m1 to m5");
 }
 
-/// 01's file as calls, and the figures of its statement: the A lines are the ledger, the T line is the balance.
+/// 01's file as calls, and its statement: the A lines are the ledger, the T line is the balance.
 fn example(count: &mut Count) {
     let plants = three(100, 50, 60);
     let (mut allotment, mut allotted, mut accounts) = ([7; 12], [7; 12], [7; 6]);
@@ -155,4 +162,14 @@ fn example(count: &mut Count) {
     let end = recorder::close(hour.month);
     step(end == End { number: 0, month: closed }, "close");
     step(recorder::balance(end.month, &allotted, &accounts) == Sums { month: closed, ..wanted }, "balance after close");
+
+    let mut bytes = [b'.'; 128 * 3 + 128];
+    let stated = recorder::statement(closed, &plants, &allotted, &accounts, &mut bytes);
+    let written = STATEMENT.len();
+    let rest = bytes[written..].iter().all(|&b| b == b'.');
+    step(stated == Stated { number: 0, month: closed, length: written as u64 }, "statement");
+    step(bytes.starts_with(STATEMENT) && rest, "the statement's bytes");
+    let sized = recorder::size(closed, &plants, &allotted, &accounts);
+    let free = written as u64 <= sized.size && sized.size <= bytes.len() as u64;
+    step(sized.number == 0 && sized.month == closed && free, "size");
 }

@@ -231,7 +231,8 @@ fn statement(at: &mut Given) -> (u64, bool) {
     let answer = recorder::statement(at.month, plants.list(), allotted.list(), accounts.list(), bytes.list());
     let read = plants.untouched(&at.plants) && allotted.untouched(&at.allotted) && accounts.untouched(&at.accounts);
     let (ours, kept) = bytes.back();
-    let rest = ours[answer.length as usize..] == at.bytes[answer.length as usize..];
+    let from = ours.len().min(answer.length as usize);
+    let rest = ours[from..] == at.bytes[from..];
     at.month = answer.month;
     at.bytes = ours;
     (answer.number, answer == wanted && read && kept && rest && at.bytes == theirs)

@@ -17,7 +17,8 @@ use Rattle.statement.specs.Statement.{line, plantLine, plantLines, totalLine, s
 use Rattle.statement.specs.Worked.{plants, first, second, third, total}
 use Rattle.month.specs.declared.Month.{Month}
 use Rattle.month.specs.declared.Stage.the-variants.{Blank, Closed}
-use Rattle.month.specs.Questions.{isOpen, isBlank, sizesNumber, placed, numbered, rowNumber, rowsNumber, lengthsNumber, tablesNumber, openNumber, ownNumber, meteredNumber, posted, boundsNumber, settleNumber, closeNumber}
+use Rattle.questions.specs.Questions.{sizesNumber, placed, numbered, rowNumber, rowsNumber, lengthsNumber, tablesNumber}
+use Rattle.month.specs.Questions.{isOpen, isBlank, openNumber, ownNumber, meteredNumber, posted, boundsNumber, settleNumber, closeNumber}
 use Rattle.month.specs.Calls.{OpenEnd, SettleEnd, openCall, settleCall, closeCall}
 use Rattle.month.specs.Statement.{dueNumber, sizingNumber, statementNumber, statementOf, statementCall}
 

@@ -1,7 +1,6 @@
--- What answered questions tell; the rows' questions; the statement within limits.
+-- What answered questions tell; the statement within limits.
 pub mod Accepted
 pub mod Asked
-pub mod Rows
 pub mod Ends
 pub mod Workable
 pub mod Many

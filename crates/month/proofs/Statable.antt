@@ -17,9 +17,9 @@ use Rattle.statement.specs.Laws.{InLimits}
 use Rattle.statement.proofs.Text.{text-columns}
 use Rattle.statement.proofs.Limits.{callable, promised}
 use Rattle.month.specs.declared.Month.{Month}
-use Rattle.month.specs.Questions.{placed, numbered, rowNumber, rowsNumber}
+use Rattle.questions.specs.Questions.{placed, numbered, rowNumber, rowsNumber}
 use Rattle.month.specs.Statement.{dueNumber, sizingNumber, statementNumber, statementOf, StatementEnd, statementCall, Sizing}
-use Rattle.month.proofs.Asked.{lengths}
+use Rattle.questions.proofs.Asked.{lengths}
 
 -- 21, 2, 3, 13 and 14, with so many rows lent
 pub record Due (m : Month) (rows : ℕ) : Type 0 where

@@ -13,7 +13,8 @@ use Rattle.statement.specs.Statement.{statementText, roomFor}
 use Rattle.month.specs.declared.Month.{Month}
 use Rattle.month.specs.declared.Stated.{Stated}
 use Rattle.month.specs.declared.Sized.{Sized}
-use Rattle.month.specs.Questions.{isBlank, rowsNumber, lengthsNumber}
+use Rattle.questions.specs.Questions.{rowsNumber, lengthsNumber}
+use Rattle.month.specs.Questions.{isBlank}
 
 -- Statement: 21, 2 and 3 for the month's own P and H, 13 (P only, with so many rows lent), 14 (H + 1 passes too)
 unfoldable pub dueNumber : Month → ℕ → ℕ

@@ -9,7 +9,8 @@ use Rattle.hour.specs.declared.Plant.{Plant}
 use Rattle.hour.specs.Table.{plantsOf, Equal}
 use Rattle.ledger.specs.Ledger.{Ledger}
 use Rattle.month.specs.declared.Month.{Month}
-use Rattle.month.specs.Questions.{ownNumber, tablesNumber, meteredNumber}
+use Rattle.questions.specs.Questions.{tablesNumber}
+use Rattle.month.specs.Questions.{ownNumber, meteredNumber}
 
 -- 12, 2 to 4, 13, 5 to 11, 14 to 18: what settle asks before it works the hour, with `lent` figures in the allotment list
 unfoldable pub inputsNumber : Month → List Plant → List ℕ → List ℕ → ℕ → Ledger → ℕ

@@ -4,8 +4,8 @@ use sharing::Table;
 pub mod balance;
 pub mod close;
 pub mod open;
-pub mod questions;
 pub mod settle;
+pub mod stages;
 pub mod stating;
 
 // A month is blank, open or closed.

@@ -1,13 +1,13 @@
 // Settle (document 01, 'Calls').
 use crate::Month;
 use crate::Settled;
-use crate::questions::MOST;
-use crate::questions::is_open;
-use crate::questions::sizes_number;
-use crate::questions::tables_number;
-use crate::questions::total;
+use crate::stages::is_open;
 use hour::Plant;
 use hour::Worked;
+use questions::MOST;
+use questions::sizes_number;
+use questions::tables_number;
+use questions::total;
 ghost use mathlib.Core.Path.{_≡_};
 ghost use mathlib.Core.Bool.{true};
 ghost use mathlib.Core.List.{List};

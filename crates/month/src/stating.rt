@@ -2,10 +2,10 @@
 use crate::Month;
 use crate::Sized;
 use crate::Stated;
-use crate::questions::is_blank;
-use crate::questions::lengths_number;
-use crate::questions::rows_number;
+use crate::stages::is_blank;
 use hour::Plant;
+use questions::lengths_number;
+use questions::rows_number;
 ghost use mathlib.Core.Path.{_≡_};
 ghost use mathlib.Core.List.{List};
 ghost use Prim.Native.Nat.{_≤_};

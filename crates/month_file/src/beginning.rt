@@ -1,6 +1,6 @@
 // A line in turn is taken: what it holds is kept, and the month opened and settled.
 use crate::MonthFile;
-use month::questions::sizes_number;
+use questions::sizes_number;
 ghost use mathlib.Core.Path.{_≡_};
 ghost use Prim.Native.Nat.{_+_};
 ghost use Rattle.month_file.specs.File.{begun};

@@ -1,8 +1,8 @@
 -- `questions::in_range` meets its contract. Assumes nothing.
 use Rattle.lists.specs.Questions.{inRange}
 use Rattle.lists.proofs.Questions.{tests}
-use Rattle.month.proofs.questions.in_range.Statement.{statement}
-use Rattle.month.proofs.questions.in_range.Tie as tie
+use Rattle.questions.proofs.in_range.Statement.{statement}
+use Rattle.questions.proofs.in_range.Tie as tie
 
 pub in-range-spec : {M : Type 1} → statement M
 unfolding inRange

@@ -1,8 +1,8 @@
 -- `questions::sizes_number` meets its contract: each return is the first no, by the tests that led to it. Assumes nothing.
 use Rattle.lists.proofs.Questions.{asks}
-use Rattle.month.specs.Questions.{sizesNumber}
-use Rattle.month.proofs.questions.sizes_number.Statement.{statement}
-use Rattle.month.proofs.questions.sizes_number.Tie as tie
+use Rattle.questions.specs.Questions.{sizesNumber}
+use Rattle.questions.proofs.sizes_number.Statement.{statement}
+use Rattle.questions.proofs.sizes_number.Tie as tie
 
 pub sizes-number-spec : {M : Type 1} → statement M
 unfolding sizesNumber

@@ -5,8 +5,8 @@ use native.Mathlib.Omega.{arith}
 use lib.ListN.{length}
 use Rattle.lists.proofs.Loops.{Adding, loops, adding-le}
 use Rattle.lists.proofs.Questions.{sum-at-most}
-use Rattle.month.proofs.questions.total.Statement.{statement}
-use Rattle.month.proofs.questions.total.Tie as tie
+use Rattle.questions.proofs.total.Statement.{statement}
+use Rattle.questions.proofs.total.Tie as tie
 
 abbrev Inv-loop : tie.InvT-loop
 Inv-loop figures sum₀ i₀ sum i = Adding figures i sum

@@ -1,9 +1,9 @@
 -- `questions::tables_number` meets its contract: each return is the first no, by the tests that led to it. Assumes nothing.
 use borrow.Author.Needs.{needs}
 use Rattle.lists.proofs.Questions.{asks, granted}
-use Rattle.month.specs.Questions.{tablesNumber}
-use Rattle.month.proofs.questions.tables_number.Statement.{statement}
-use Rattle.month.proofs.questions.tables_number.Tie as tie
+use Rattle.questions.specs.Questions.{tablesNumber}
+use Rattle.questions.proofs.tables_number.Statement.{statement}
+use Rattle.questions.proofs.tables_number.Tie as tie
 
 pub tables-number-spec : {M : Type 1} → statement M
 unfolding tablesNumber

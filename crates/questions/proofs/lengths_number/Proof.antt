@@ -1,9 +1,9 @@
 -- `questions::lengths_number` meets its contract. Assumes nothing.
 use borrow.Author.Needs.{needs}
 use Rattle.lists.proofs.Questions.{asks}
-use Rattle.month.specs.Questions.{lengthsNumber}
-use Rattle.month.proofs.questions.lengths_number.Statement.{statement}
-use Rattle.month.proofs.questions.lengths_number.Tie as tie
+use Rattle.questions.specs.Questions.{lengthsNumber}
+use Rattle.questions.proofs.lengths_number.Statement.{statement}
+use Rattle.questions.proofs.lengths_number.Tie as tie
 
 pub lengths-number-spec : {M : Type 1} → statement M
 unfolding lengthsNumber

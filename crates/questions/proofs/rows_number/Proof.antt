@@ -2,9 +2,9 @@
 use borrow.Author.Needs.{needs}
 use Prim.Native.Nat.{_-_}
 use lib.ListN.{length}
-use Rattle.month.proofs.Rows.{Descending, rows}
-use Rattle.month.proofs.questions.rows_number.Statement.{statement}
-use Rattle.month.proofs.questions.rows_number.Tie as tie
+use Rattle.questions.proofs.Rows.{Descending, rows}
+use Rattle.questions.proofs.rows_number.Statement.{statement}
+use Rattle.questions.proofs.rows_number.Tie as tie
 
 abbrev Inv-loop : tie.InvT-loop
 Inv-loop submarket number guarantee loss availability submarket-above₀ number-above₀ i₀ submarket-above number-above i =

@@ -1,9 +1,9 @@
 -- `questions::is_placed` meets its contract. Assumes nothing.
 use borrow.Author.Needs.{needs}
 use Rattle.lists.proofs.Questions.{tests}
-use Rattle.month.specs.Questions.{placed}
-use Rattle.month.proofs.questions.is_placed.Statement.{statement}
-use Rattle.month.proofs.questions.is_placed.Tie as tie
+use Rattle.questions.specs.Questions.{placed}
+use Rattle.questions.proofs.is_placed.Statement.{statement}
+use Rattle.questions.proofs.is_placed.Tie as tie
 
 pub is-placed-spec : {M : Type 1} → statement M
 unfolding placed

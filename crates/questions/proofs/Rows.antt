@@ -10,7 +10,7 @@ use Rattle.lists.specs.Questions.{_then_}
 use Rattle.lists.proofs.Questions.{then-no, then-yes}
 use Rattle.hour.specs.Table.{plantsOf}
 use Rattle.hour.proofs.Table.{plant, length-plants, row-at}
-use Rattle.month.specs.Questions.{rowNumber, rowsNumber}
+use Rattle.questions.specs.Questions.{rowNumber, rowsNumber}
 
 -- a loop down the rows: i are passed, the last of them of submarket s and number n
 pub record Descending (ss ns gs ls vs : List ℕ) (s n i : ℕ) : Type 0 where

@@ -1,8 +1,8 @@
--- `questions::is_blank` meets its contract: by the stage. Assumes nothing.
+-- `stages::is_blank` meets its contract: by the stage. Assumes nothing.
 use borrow.Author.Needs.{needs}
 use Rattle.month.specs.Questions.{isBlank}
-use Rattle.month.proofs.questions.is_blank.Statement.{statement}
-use Rattle.month.proofs.questions.is_blank.Tie as tie
+use Rattle.month.proofs.stages.is_blank.Statement.{statement}
+use Rattle.month.proofs.stages.is_blank.Tie as tie
 
 pub is-blank-spec : {M : Type 1} → statement M
 unfolding isBlank

@@ -1,9 +1,9 @@
 -- `questions::row_number` meets its contract: each return is the first no, by the tests that led to it. Assumes nothing.
 use borrow.Author.Needs.{needs}
 use Rattle.lists.proofs.Questions.{asks}
-use Rattle.month.specs.Questions.{rowNumber}
-use Rattle.month.proofs.questions.row_number.Statement.{statement}
-use Rattle.month.proofs.questions.row_number.Tie as tie
+use Rattle.questions.specs.Questions.{rowNumber}
+use Rattle.questions.proofs.row_number.Statement.{statement}
+use Rattle.questions.proofs.row_number.Tie as tie
 
 pub row-number-spec : {M : Type 1} → statement M
 unfolding rowNumber

@@ -1,6 +1,4 @@
-// The questions that several calls put (document 01, 'The questions'): each function answers the number of its definition.
-use crate::Month;
-use crate::Stage;
+// Questions 2 to 11, which several calls put (document 01, 'The questions'): each function answers the number of its definition.
 ghost use mathlib.Core.Path.{_≡_};
 ghost use mathlib.Core.Bool.{true};
 ghost use Prim.Native.Nat.{_*_, _^_, _≤_};
@@ -8,32 +6,10 @@ ghost use lib.ListN.{length};
 ghost use Rattle.lists.specs.Lists.{sum, atMost};
 ghost use Rattle.lists.specs.Questions.{inRange};
 ghost use Rattle.hour.specs.Table.{plantsOf, Equal};
-ghost use Rattle.month.specs.Questions.{isOpen, isBlank, sizesNumber, placed, numbered, rowNumber, rowsNumber, lengthsNumber, tablesNumber};
+ghost use Rattle.questions.specs.Questions.{sizesNumber, placed, numbered, rowNumber, rowsNumber, lengthsNumber, tablesNumber};
 
 // The most that a profile figure or a metered figure can be, in kWh.
 pub const MOST: u64 = 2000000000;
-
-// Is a month at this stage open?
-pub fn is_open(stage: Stage) -> bool
-    ensures { λ r. ⌜ r ≡ isOpen stage ⌝ }
-{
-    match stage {
-        Stage::Blank => false,
-        Stage::Open => true,
-        Stage::Closed => false,
-    }
-}
-
-// Is it blank?
-pub fn is_blank(stage: Stage) -> bool
-    ensures { λ r. ⌜ r ≡ isBlank stage ⌝ }
-{
-    match stage {
-        Stage::Blank => true,
-        Stage::Open => false,
-        Stage::Closed => false,
-    }
-}
 
 // 2, 3 and 4: P, H and TEO in limits.
 pub fn sizes_number(plants: u64, periods: u64, tariff: u64) -> u64

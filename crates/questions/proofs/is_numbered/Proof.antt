@@ -1,9 +1,9 @@
 -- `questions::is_numbered` meets its contract. Assumes nothing.
 use borrow.Author.Needs.{needs}
 use Rattle.lists.proofs.Questions.{tests}
-use Rattle.month.specs.Questions.{numbered}
-use Rattle.month.proofs.questions.is_numbered.Statement.{statement}
-use Rattle.month.proofs.questions.is_numbered.Tie as tie
+use Rattle.questions.specs.Questions.{numbered}
+use Rattle.questions.proofs.is_numbered.Statement.{statement}
+use Rattle.questions.proofs.is_numbered.Tie as tie
 
 pub is-numbered-spec : {M : Type 1} → statement M
 unfolding numbered

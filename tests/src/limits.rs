@@ -200,6 +200,20 @@ fn opening(limits: &mut Limits) {
 
 /// 5 to 8, which open, settle, statement and sizing put.
 fn tables(limits: &mut Limits, call: &'static str) {
+    places(limits, call);
+    for row in 0..3 {
+        for (guarantee, wanted) in [(0, 0), (GUARANTEE, 0), (GUARANTEE + 1, 7), ((1 << 63) + 200, 7), (u64::MAX, 7)] {
+            limits.put(call, 7, wanted, |at| at.plants[row].guarantee = guarantee);
+        }
+        for (factor, wanted) in [(0, 0), (1_000_000, 0), (1_000_001, 8), (HIGH + 1_000_000, 8), (u64::MAX, 8)] {
+            limits.put(call, 8, wanted, |at| at.plants[row].loss = factor);
+            limits.put(call, 8, wanted, |at| at.plants[row].availability = factor);
+        }
+    }
+}
+
+/// 5 and 6.
+fn places(limits: &mut Limits, call: &'static str) {
     for (row, submarket, wanted) in [
         (0, 0, 5),
         (0, 1, 0),
@@ -233,15 +247,6 @@ fn tables(limits: &mut Limits, call: &'static str) {
         (2, u64::MAX, 6),
     ] {
         limits.put(call, 6, wanted, |at| at.plants[row].number = number);
-    }
-    for row in 0..3 {
-        for (guarantee, wanted) in [(0, 0), (GUARANTEE, 0), (GUARANTEE + 1, 7), ((1 << 63) + 200, 7), (u64::MAX, 7)] {
-            limits.put(call, 7, wanted, |at| at.plants[row].guarantee = guarantee);
-        }
-        for (factor, wanted) in [(0, 0), (1_000_000, 0), (1_000_001, 8), (HIGH + 1_000_000, 8), (u64::MAX, 8)] {
-            limits.put(call, 8, wanted, |at| at.plants[row].loss = factor);
-            limits.put(call, 8, wanted, |at| at.plants[row].availability = factor);
-        }
     }
     // The last row of a full table.
     for (number, wanted) in [(999_999, 0), (1_000_000, 6)] {
@@ -314,6 +319,14 @@ fn settling(limits: &mut Limits) {
     }
     // It is told no tariff: the open call's is free.
     limits.put("settle", 4, 0, |at| at.tariff = u64::MAX);
+    lent_as_many(limits);
+    tables(limits, "settle");
+    profiles(limits, "settle");
+    ledgers(limits, "settle");
+}
+
+/// 13.
+fn lent_as_many(limits: &mut Limits) {
     for (n, wanted) in [(0, 13), (2, 13), (3, 0), (4, 13), (512, 13), (513, 13), (600, 13)] {
         limits.put("settle", 13, wanted, |at| {
             let plants = at.plants.clone();
@@ -332,9 +345,6 @@ fn settling(limits: &mut Limits) {
     for (n, wanted) in [(0, 13), (1, 13), (2, 0), (3, 13), (745, 13)] {
         limits.put("settle", 13, wanted, |at| at.profile.resize(n, 180));
     }
-    tables(limits, "settle");
-    profiles(limits, "settle");
-    ledgers(limits, "settle");
 }
 
 /// 14 to 18.

@@ -1,5 +1,5 @@
-//! Each question of open, settle, balance and close from both sides of its limit (01, 'The questions'; 1 to 21), and
-//! two faults at once. The numbers here are read from 01, so that they hold the second program too.
+//! Each question of the month's calls from both sides of its limit (01, 'The questions'; 1 to 22), and two faults at
+//! once. The numbers here are read from 01, so that they hold the second program too.
 
 use crate::count::Count;
 use crate::month::{compare, Given};
@@ -15,11 +15,13 @@ const MONEY: i64 = 14_880_000_000_000_000;
 const HIGH: u64 = 1 << 32;
 
 /// The questions of each call, in the order in which 01 puts them.
-const ORDER: [(&str, &[u64]); 4] = [
+const ORDER: [(&str, &[u64]); 6] = [
     ("open", &[1, 2, 3, 4, 5, 6, 7, 8, 9, 10, 11]),
     ("settle", &[12, 2, 3, 4, 13, 5, 6, 7, 8, 9, 10, 11, 14, 15, 16, 17, 18, 19]),
     ("balance", &[21, 2, 11, 19]),
     ("close", &[12, 3, 20]),
+    ("statement", &[21, 2, 3, 13, 14, 5, 6, 7, 8, 11, 19, 22]),
+    ("size", &[21, 2, 3, 13, 14, 5, 6, 7, 8, 11, 19]),
 ];
 
 /// Stages that no call gives: each is read as blank. Their low bytes are 0, 1, 2 and others.
@@ -48,7 +50,18 @@ pub fn run(count: &mut Count) {
     bounds(&mut limits);
     balancing(&mut limits);
     closing(&mut limits);
-    for (call, faults) in [("open", &OPEN[..]), ("settle", &SETTLE), ("balance", &BALANCE), ("close", &CLOSE)] {
+    for call in ["statement", "size"] {
+        stating(&mut limits, call);
+    }
+    room(&mut limits);
+    for (call, faults) in [
+        ("open", &OPEN[..]),
+        ("settle", &SETTLE),
+        ("balance", &BALANCE),
+        ("close", &CLOSE),
+        ("statement", &STATEMENT),
+        ("size", &STATEMENT[..STATEMENT.len() - 1]),
+    ] {
         two_faults(&mut limits, call, faults);
     }
     rows_before_rows(&mut limits);
@@ -73,6 +86,7 @@ fn base(call: &str) -> Given {
         allotment: vec![9; 12],
         allotted: vec![5; 12],
         accounts: vec![-5; 6],
+        bytes: vec![b'.'; 128 * 3 + 128],
     }
 }
 
@@ -134,6 +148,7 @@ fn more_rows(at: &mut Given, n: usize) {
         at.allotment.extend([9; 4]);
         at.allotted.extend([5; 4]);
         at.accounts.extend([-5; 2]);
+        at.bytes.extend([b'.'; 128]);
     }
 }
 
@@ -179,10 +194,26 @@ fn opening(limits: &mut Limits) {
         limits.put("open", 4, wanted, |at| at.tariff = tariff);
     }
     tables(limits, "open");
+    profiles(limits, "open");
+    ledgers(limits, "open");
 }
 
-/// 5 to 11, which open and settle both put.
+/// 5 to 8, which open, settle, statement and sizing put.
 fn tables(limits: &mut Limits, call: &'static str) {
+    places(limits, call);
+    for row in 0..3 {
+        for (guarantee, wanted) in [(0, 0), (GUARANTEE, 0), (GUARANTEE + 1, 7), ((1 << 63) + 200, 7), (u64::MAX, 7)] {
+            limits.put(call, 7, wanted, |at| at.plants[row].guarantee = guarantee);
+        }
+        for (factor, wanted) in [(0, 0), (1_000_000, 0), (1_000_001, 8), (HIGH + 1_000_000, 8), (u64::MAX, 8)] {
+            limits.put(call, 8, wanted, |at| at.plants[row].loss = factor);
+            limits.put(call, 8, wanted, |at| at.plants[row].availability = factor);
+        }
+    }
+}
+
+/// 5 and 6.
+fn places(limits: &mut Limits, call: &'static str) {
     for (row, submarket, wanted) in [
         (0, 0, 5),
         (0, 1, 0),
@@ -217,15 +248,6 @@ fn tables(limits: &mut Limits, call: &'static str) {
     ] {
         limits.put(call, 6, wanted, |at| at.plants[row].number = number);
     }
-    for row in 0..3 {
-        for (guarantee, wanted) in [(0, 0), (GUARANTEE, 0), (GUARANTEE + 1, 7), ((1 << 63) + 200, 7), (u64::MAX, 7)] {
-            limits.put(call, 7, wanted, |at| at.plants[row].guarantee = guarantee);
-        }
-        for (factor, wanted) in [(0, 0), (1_000_000, 0), (1_000_001, 8), (HIGH + 1_000_000, 8), (u64::MAX, 8)] {
-            limits.put(call, 8, wanted, |at| at.plants[row].loss = factor);
-            limits.put(call, 8, wanted, |at| at.plants[row].availability = factor);
-        }
-    }
     // The last row of a full table.
     for (number, wanted) in [(999_999, 0), (1_000_000, 6)] {
         limits.put(call, 6, wanted, |at| {
@@ -233,11 +255,10 @@ fn tables(limits: &mut Limits, call: &'static str) {
             (at.month.plants, at.plants[511].number) = (512, number);
         });
     }
-    profiles_and_ledgers(limits, call);
 }
 
-/// 9 to 11.
-fn profiles_and_ledgers(limits: &mut Limits, call: &'static str) {
+/// 9 and 10.
+fn profiles(limits: &mut Limits, call: &'static str) {
     for (figure, wanted) in [(0, 0), (HOUR, 0), (HOUR + 1, 9), (HIGH + 180, 9), (u64::MAX, 9)] {
         limits.put(call, 9, wanted, |at| at.profile[1] = figure);
         // The period due, all of it metered at the first plant: 16 and 17 are answered yes where they can be.
@@ -250,6 +271,10 @@ fn profiles_and_ledgers(limits: &mut Limits, call: &'static str) {
     }
     // A sum that would wrap to 0 is 9's, not 10's.
     limits.put(call, 9, 9, |at| at.profile = vec![1 << 63, 1 << 63]);
+}
+
+/// 11.
+fn ledgers(limits: &mut Limits, call: &'static str) {
     for (kwh, signed, wanted) in [
         (12, 6, 0),
         (11, 6, 11),
@@ -294,6 +319,14 @@ fn settling(limits: &mut Limits) {
     }
     // It is told no tariff: the open call's is free.
     limits.put("settle", 4, 0, |at| at.tariff = u64::MAX);
+    lent_as_many(limits);
+    tables(limits, "settle");
+    profiles(limits, "settle");
+    ledgers(limits, "settle");
+}
+
+/// 13.
+fn lent_as_many(limits: &mut Limits) {
     for (n, wanted) in [(0, 13), (2, 13), (3, 0), (4, 13), (512, 13), (513, 13), (600, 13)] {
         limits.put("settle", 13, wanted, |at| {
             let plants = at.plants.clone();
@@ -312,7 +345,6 @@ fn settling(limits: &mut Limits) {
     for (n, wanted) in [(0, 13), (1, 13), (2, 0), (3, 13), (745, 13)] {
         limits.put("settle", 13, wanted, |at| at.profile.resize(n, 180));
     }
-    tables(limits, "settle");
 }
 
 /// 14 to 18.
@@ -381,12 +413,7 @@ fn bounds(limits: &mut Limits) {
 }
 
 fn balancing(limits: &mut Limits) {
-    for (stage, wanted) in [(0, 21), (1, 0), (2, 0)] {
-        limits.put("balance", 21, wanted, |at| at.month.stage = stage);
-    }
-    for stage in STRANGE {
-        limits.put("balance", 21, 21, |at| at.month.stage = stage);
-    }
+    not_blank(limits, "balance");
     for (plants, wanted) in [(0, 2), (2, 11), (3, 0), (4, 11), (512, 11), (513, 2), (HIGH + 3, 2), (u64::MAX, 2)] {
         limits.put("balance", 2, wanted, |at| at.month.plants = plants);
     }
@@ -400,12 +427,25 @@ fn balancing(limits: &mut Limits) {
     limits.put("balance", 2, 0, |at| {
         (at.month.periods, at.month.tariff, at.month.due) = (0, u64::MAX, u64::MAX);
     });
-    for (kwh, signed, wanted) in [(12, 6, 0), (11, 6, 11), (13, 6, 11), (12, 5, 11), (12, 7, 11), (0, 0, 11)] {
-        limits.put("balance", 11, wanted, |at| (at.allotted, at.accounts) = (vec![5; kwh], vec![-5; signed]));
+    ledgers(limits, "balance");
+    at_hand(limits, "balance");
+}
+
+/// 21, which balance, statement and sizing put.
+fn not_blank(limits: &mut Limits, call: &'static str) {
+    for (stage, wanted) in [(0, 21), (1, 0), (2, 0)] {
+        limits.put(call, 21, wanted, |at| at.month.stage = stage);
     }
+    for stage in STRANGE {
+        limits.put(call, 21, 21, |at| at.month.stage = stage);
+    }
+}
+
+/// 19 for the ledger at hand.
+fn at_hand(limits: &mut Limits, call: &'static str) {
     for index in 0..12 {
         for (figure, wanted) in [(KWH, 0), (KWH + 1, 19), (u64::MAX, 19)] {
-            limits.put("balance", 19, wanted, |at| at.allotted[index] = figure);
+            limits.put(call, 19, wanted, |at| at.allotted[index] = figure);
         }
     }
     for index in 0..6 {
@@ -413,12 +453,12 @@ fn balancing(limits: &mut Limits) {
         for (figure, wanted) in
             [(bound, 0), (bound + 1, 19), (-bound, 0), (-bound - 1, 19), (i64::MIN, 19), (i64::MAX, 19)]
         {
-            limits.put("balance", 19, wanted, |at| at.accounts[index] = figure);
+            limits.put(call, 19, wanted, |at| at.accounts[index] = figure);
         }
     }
     // All figures at their bound: the largest sums there are.
     for sign in [1, -1] {
-        limits.put("balance", 19, 0, |at| {
+        limits.put(call, 19, 0, |at| {
             more_rows(at, 512);
             at.month.plants = 512;
             at.allotted.fill(KWH);
@@ -452,6 +492,63 @@ fn closing(limits: &mut Limits) {
     }
     // It asks neither P nor TEO.
     limits.put("close", 3, 0, |at| (at.month.plants, at.month.tariff) = (u64::MAX, u64::MAX));
+}
+
+/// The questions that statement and sizing both put.
+fn stating(limits: &mut Limits, call: &'static str) {
+    not_blank(limits, call);
+    for (plants, wanted) in [(0, 2), (2, 13), (3, 0), (4, 13), (512, 13), (513, 2), (HIGH + 3, 2), (u64::MAX, 2)] {
+        limits.put(call, 2, wanted, |at| at.month.plants = plants);
+    }
+    for (n, wanted) in [(0, 2), (1, 0), (512, 0), (513, 2)] {
+        limits.put(call, 2, wanted, |at| {
+            rows(at, n);
+            at.month.plants = n as u64;
+        });
+    }
+    for (periods, wanted) in [(0, 3), (1, 0), (744, 0), (745, 3), (HIGH + 2, 3), (u64::MAX, 3)] {
+        limits.put(call, 3, wanted, |at| at.month.periods = periods);
+    }
+    for (n, wanted) in [(0, 13), (2, 13), (3, 0), (4, 13), (513, 13), (600, 13)] {
+        limits.put(call, 13, wanted, |at| {
+            let plants = at.plants.clone();
+            at.plants = plants.into_iter().cycle().take(n).collect();
+        });
+    }
+    for (due, wanted) in [(0, 14), (1, 0), (2, 0), (3, 0), (4, 14), (HIGH + 1, 14), (u64::MAX, 14)] {
+        for stage in [1, 2] {
+            limits.put(call, 14, wanted, |at| (at.month.stage, at.month.due) = (stage, due));
+        }
+    }
+    // It asks neither TEO nor the profile.
+    limits.put(call, 3, 0, |at| (at.month.tariff, at.tariff, at.profile) = (u64::MAX, u64::MAX, vec![u64::MAX; 9]));
+    tables(limits, call);
+    ledgers(limits, call);
+    at_hand(limits, call);
+}
+
+/// 22: at least 128P + 128 bytes lent.
+fn room(limits: &mut Limits) {
+    for (n, enough) in [(1, 256), (3, 512), (512, 65_664)] {
+        for (length, wanted) in [(0, 22), (enough - 1, 22), (enough, 0), (enough + 1, 0), (enough + 5_000, 0)] {
+            limits.put("statement", 22, wanted, |at| {
+                rows(at, n);
+                (at.month.plants, at.bytes) = (n as u64, vec![b'.'; length]);
+            });
+        }
+    }
+    // The longest figures that there are, in the least room.
+    limits.put("statement", 22, 0, |at| {
+        more_rows(at, 512);
+        (at.month.plants, at.month.periods, at.month.due) = (512, 744, 745);
+        for (row, plant) in at.plants.iter_mut().enumerate() {
+            (plant.submarket, plant.number) = (4, 999_488 + row as u64);
+        }
+        at.allotted.fill(KWH);
+        for pair in at.accounts.chunks_mut(2) {
+            (pair[0], pair[1]) = (-(KWH as i64), -MONEY);
+        }
+    });
 }
 
 // ---- two faults at once
@@ -503,6 +600,21 @@ const BALANCE: [Fault; 4] = [
 
 const CLOSE: [Fault; 3] = [(12, |at| at.month.stage = 0), (3, |at| at.month.periods = 0), (20, |at| at.month.due = 2)];
 
+const STATEMENT: [Fault; 12] = [
+    (21, |at| at.month.stage = 0),
+    (2, |at| at.month.plants = 513),
+    (3, |at| at.month.periods = 745),
+    (13, |at| at.plants.push(base("settle").plants[2])),
+    (14, |at| at.month.due = 0),
+    (5, |at| at.plants[1].submarket = 0),
+    (6, |at| at.plants[1].number = 0),
+    (7, |at| at.plants[1].guarantee = GUARANTEE + 1),
+    (8, |at| at.plants[1].loss = 1_000_001),
+    (11, |at| at.accounts.push(0)),
+    (19, |at| at.allotted[11] = KWH + 1),
+    (22, |at| at.bytes.truncate(511)),
+];
+
 /// Each fault alone, each two of them, and all from each on: the earliest gives the number.
 fn two_faults(limits: &mut Limits, call: &'static str, faults: &[Fault]) {
     for (i, &(number, fault)) in faults.iter().enumerate() {
@@ -531,7 +643,7 @@ fn rows_before_rows(limits: &mut Limits) {
         (8, |plant| plant.loss = u64::MAX),
         (8, |plant| plant.availability = 1_000_001),
     ];
-    for call in ["open", "settle"] {
+    for call in ["open", "settle", "statement", "size"] {
         for (row, next) in [(0, 1), (1, 2), (0, 2)] {
             for (number, fault) in faults {
                 for (later, behind) in faults {

@@ -10,7 +10,7 @@ use crate::tally::Tally;
 const SEED: u64 = 1_21;
 
 /// Lists, and the calls in each.
-const LISTS: u64 = 15_000;
+const LISTS: u64 = 20_000;
 const CALLS: u64 = 20;
 
 pub fn run(count: &mut Count) {
@@ -33,6 +33,8 @@ fn tallied(count: &mut Count, random: &mut Random) {
     for _ in 0..CALLS {
         let (call, asked, number) = step(count, random, &mut at);
         tally.add(call, &asked, number);
+        let stated = call != "statement" || number != 0 || tally.is_stated(&asked, &at.bytes);
+        count.case(stated, || format!("statement on {:?}: not the tally's", asked));
         count.case(tally.is_ledger(&at) && tally.adds_up(), || {
             format!("{} on {:?}: not the tally {:?}", call, asked, at)
         });
@@ -72,6 +74,7 @@ fn begun(random: &mut Random) -> Given {
         allotment: vec![9; 4 * rows],
         allotted: vec![5; 4 * rows],
         accounts: vec![-5; 2 * rows],
+        bytes: Vec::new(),
     }
 }
 
@@ -95,6 +98,7 @@ fn step(count: &mut Count, random: &mut Random, at: &mut Given) -> (&'static str
         at.plants = asked.plants;
         at.profile = asked.profile;
     }
+    at.bytes = asked.bytes;
     (call, before, number)
 }
 
@@ -106,6 +110,8 @@ fn next(random: &mut Random, at: &Given) -> &'static str {
         9..=14 => "close",
         15..=20 => "open",
         21..=26 => "settle",
+        27..=36 => "statement",
+        37..=42 => "size",
         _ if finished => "close",
         _ if at.month.stage == 1 => "settle",
         _ => "open",
@@ -123,10 +129,15 @@ fn lend(random: &mut Random, call: &str, at: &mut Given) {
             at.profile.resize(periods, 7);
         }
     }
+    if ["statement", "size"].contains(&call) && random.chance(20) {
+        at.plants = plants(random, rows);
+    }
     at.tariff = tariff(random);
     let period = at.month.due.clamp(1, at.profile.len() as u64) as usize;
     at.metered = split(random, at.profile[period - 1], rows);
     at.allotment = vec![9; 4 * rows];
+    let enough = 128 * rows + 128;
+    at.bytes = vec![random.next() as u8; random.pick(&[enough, enough, enough, enough - 1, enough + 1, enough + 300])];
 }
 
 fn tariff(random: &mut Random) -> u64 {
@@ -206,7 +217,7 @@ fn any_month(random: &mut Random, at: &Given) -> Month {
     }
 }
 
-/// A ledger of any content: inside its bounds, near them, or anywhere.
+/// A ledger of any content: inside its bounds or near them, often with one figure past its bound; or anywhere.
 fn any_ledger(random: &mut Random, at: &mut Given) {
     let (kwh, money) = (second::MAX_KWH, second::MAX_MONEY);
     let anywhere = random.chance(30);
@@ -217,6 +228,14 @@ fn any_ledger(random: &mut Random, at: &mut Given) {
         let bound = if i % 2 == 0 { kwh } else { money } as i64;
         *figure =
             if anywhere { random.next() as i64 } else { random.pick(&[0, 1, -1, bound, -bound, bound - 1, 1 - bound]) };
+    }
+    if random.chance(30) {
+        // Past it before the hour, and often inside after it.
+        at.allotted.fill(0);
+        at.accounts.fill(0);
+        let index = random.between(0, at.accounts.len() as u64 - 1) as usize;
+        let bound = if index % 2 == 0 { kwh } else { money } as i64;
+        at.accounts[index] = random.pick(&[bound + 1, -bound - 1]);
     }
 }
 

@@ -7,6 +7,7 @@
 //! is 0 only if nothing failed and something was tried.
 
 mod count;
+mod files;
 mod lent;
 mod limits;
 mod lines;
@@ -26,7 +27,7 @@ const CALLS: u64 = 200_000;
 
 type Part = (&'static str, fn(&mut count::Count));
 
-const PARTS: [Part; 7] = [
+const PARTS: [Part; 8] = [
     ("share", share::run),
     ("transfer", transfer::run),
     ("lines", lines::run),
@@ -34,6 +35,7 @@ const PARTS: [Part; 7] = [
     ("month", month::run),
     ("limits", limits::run),
     ("worked", worked::run),
+    ("files", files::run),
 ];
 
 fn main() {

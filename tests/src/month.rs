@@ -1,9 +1,9 @@
-//! The month's calls open, settle, balance and close (01, 'Calls' and 'The questions'; 1 to 21) against the second
-//! program: its scripts of calls on a month, and generated lists of calls, each with its tally.
+//! The month's calls open, settle, balance, close, statement and sizing (01, 'Calls' and 'The questions'; 1 to 22)
+//! against the second program: its scripts of calls on a month, and generated lists of calls, half of them with a tally.
 
 use crate::count::Count;
 use crate::lent::Lent;
-use crate::recorder::{End, Hour, Month, Plant, Sums, Table};
+use crate::recorder::{End, Hour, Month, Plant, Stated, Sums, Table};
 use crate::{lists, program, recorder, script};
 use second::{Desk, Rule, Stage, State};
 
@@ -30,6 +30,8 @@ pub fn run(count: &mut Count) {
         ("settle", &[0, 12, 2, 3, 4, 13, 5, 6, 7, 8, 9, 10, 11, 14, 15, 16, 17, 18, 19]),
         ("balance", &[0, 21, 2, 11, 19]),
         ("close", &[0, 12, 3, 20]),
+        ("statement", &[0, 21, 2, 3, 13, 14, 5, 6, 7, 8, 11, 19, 22]),
+        ("size", &[0, 21, 2, 3, 13, 14, 5, 6, 7, 8, 11, 19]),
     ] {
         for &number in numbers {
             count.answered(call, number, 100);
@@ -51,6 +53,7 @@ pub struct Given {
     pub allotment: Vec<u64>,
     pub allotted: Vec<u64>,
     pub accounts: Vec<i64>,
+    pub bytes: Vec<u8>,
 }
 
 /// One call of ours and one of the second program on the same arguments: the answer, the month, every lent list and
@@ -62,6 +65,8 @@ pub fn compare(count: &mut Count, call: &'static str, at: &mut Given) -> u64 {
         "settle" => settle(count, at),
         "balance" => balance(at),
         "close" => close(at),
+        "statement" => statement(at),
+        "size" => size(at),
         _ => unreachable!("no call {}", call),
     };
     // 01: a refusal hands back the month as it came and changes nothing anywhere.
@@ -211,6 +216,40 @@ fn close(at: &mut Given) -> (u64, bool) {
     let answer = recorder::close(at.month);
     at.month = answer.month;
     (answer.number, answer == wanted)
+}
+
+/// 01: the statement fills the front of the lent bytes; the rest stays.
+fn statement(at: &mut Given) -> (u64, bool) {
+    let mut theirs = at.bytes.clone();
+    let (_, number, length) =
+        Desk::new(Stage(0)).statement(their_month(at), &their_plants(at), &[], &their_ledger(at), &mut theirs);
+    let wanted = Stated { number: number as u64, month: at.month, length };
+
+    let mut plants = Lent::new(&at.plants, PLANT);
+    let (mut allotted, mut accounts) = (Lent::new(&at.allotted, KWH), Lent::new(&at.accounts, SIGNED));
+    let mut bytes = Lent::new(&at.bytes, b'7');
+    let answer = recorder::statement(at.month, plants.list(), allotted.list(), accounts.list(), bytes.list());
+    let read = plants.untouched(&at.plants) && allotted.untouched(&at.allotted) && accounts.untouched(&at.accounts);
+    let (ours, kept) = bytes.back();
+    let from = ours.len().min(answer.length as usize);
+    let rest = ours[from..] == at.bytes[from..];
+    at.month = answer.month;
+    at.bytes = ours;
+    (answer.number, answer == wanted && read && kept && rest && at.bytes == theirs)
+}
+
+/// 01: the answer is free between the bytes that the statement writes and 128P + 128.
+fn size(at: &mut Given) -> (u64, bool) {
+    let (_, number, limit, written) =
+        Desk::new(Stage(0)).size(their_month(at), &their_plants(at), &[], &their_ledger(at));
+    let mut plants = Lent::new(&at.plants, PLANT);
+    let (mut allotted, mut accounts) = (Lent::new(&at.allotted, KWH), Lent::new(&at.accounts, SIGNED));
+    let answer = recorder::size(at.month, plants.list(), allotted.list(), accounts.list());
+    let read = plants.untouched(&at.plants) && allotted.untouched(&at.allotted) && accounts.untouched(&at.accounts);
+    let free = written <= answer.size && answer.size <= limit;
+    let good = answer.number == number as u64 && answer.month == at.month && free && read;
+    at.month = answer.month;
+    (answer.number, good)
 }
 
 impl Given {

@@ -68,6 +68,24 @@ pub struct Sums {
     pub money: i64,
 }
 
+/// The answer of the statement.
+#[repr(C)]
+#[derive(Clone, Copy, PartialEq, Eq, Debug)]
+pub struct Stated {
+    pub number: u64,
+    pub month: Month,
+    pub length: u64,
+}
+
+/// The answer of the sizing call.
+#[repr(C)]
+#[derive(Clone, Copy, PartialEq, Eq, Debug)]
+pub struct Size {
+    pub number: u64,
+    pub month: Month,
+    pub size: u64,
+}
+
 /// The answer of reading a line.
 #[repr(C)]
 #[derive(Clone, Copy, PartialEq, Eq, Debug)]
@@ -138,6 +156,26 @@ extern "C" {
         accounts_length: usize,
     ) -> Sums;
     fn iolwarch_close(month: Month) -> End;
+    fn iolwarch_statement(
+        month: Month,
+        plants: *const Plant,
+        plants_length: usize,
+        allotted: *const u64,
+        allotted_length: usize,
+        accounts: *const i64,
+        accounts_length: usize,
+        bytes: *mut u8,
+        bytes_length: usize,
+    ) -> Stated;
+    fn iolwarch_statement_size(
+        month: Month,
+        plants: *const Plant,
+        plants_length: usize,
+        allotted: *const u64,
+        allotted_length: usize,
+        accounts: *const i64,
+        accounts_length: usize,
+    ) -> Size;
     fn iolwarch_read_line(line: *const u8, line_length: usize, figures: *mut u64, figures_length: usize) -> Line;
     fn iolwarch_field(line: *const u8, line_length: usize, index: u64) -> FieldPlace;
 }
@@ -216,6 +254,38 @@ pub fn balance(month: Month, allotted: &[u64], accounts: &[i64]) -> Sums {
 /// Ends the month.
 pub fn close(month: Month) -> End {
     unsafe { iolwarch_close(month) }
+}
+
+/// Writes the statement to the front of `bytes`.
+pub fn statement(month: Month, plants: &[Plant], allotted: &[u64], accounts: &[i64], bytes: &mut [u8]) -> Stated {
+    unsafe {
+        iolwarch_statement(
+            month,
+            plants.as_ptr(),
+            plants.len(),
+            allotted.as_ptr(),
+            allotted.len(),
+            accounts.as_ptr(),
+            accounts.len(),
+            bytes.as_mut_ptr(),
+            bytes.len(),
+        )
+    }
+}
+
+/// A number of bytes that the statement does not pass.
+pub fn size(month: Month, plants: &[Plant], allotted: &[u64], accounts: &[i64]) -> Size {
+    unsafe {
+        iolwarch_statement_size(
+            month,
+            plants.as_ptr(),
+            plants.len(),
+            allotted.as_ptr(),
+            allotted.len(),
+            accounts.as_ptr(),
+            accounts.len(),
+        )
+    }
 }
 
 /// Reads a line, its end byte 10 removed.

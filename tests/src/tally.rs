@@ -83,6 +83,19 @@ impl Tally {
         self.allotted == at.allotted && self.accounts == at.accounts && (!self.opened || at.month.due == self.k + 1)
     }
 
+    /// An accepted statement, of the tally's figures for the plants as they were lent, and of its count of periods.
+    pub fn is_stated(&self, asked: &Given, bytes: &[u8]) -> bool {
+        let mut wanted = String::new();
+        for (row, plant) in asked.plants.iter().enumerate() {
+            let (figures, signed) = (&self.allotted[4 * row..4 * row + 4], &self.accounts[2 * row..2 * row + 2]);
+            wanted += &format!("A,{},{}{}{}\n", plant.submarket, plant.number, fields(figures), fields(signed));
+        }
+        let columns: Vec<u64> = (0..4).map(|s| self.allotted.iter().skip(s).step_by(4).sum()).collect();
+        let whole: u64 = columns.iter().sum();
+        wanted += &format!("T,{},{}{},{}\n", self.k, asked.plants.len(), fields(&columns), whole);
+        bytes.starts_with(wanted.as_bytes())
+    }
+
     /// Each plant's figures and net are its generation and its figures no less than its covered guarantees, each
     /// column is the generation metered there, nets and money add up to zero.
     pub fn adds_up(&self) -> bool {
@@ -98,4 +111,9 @@ impl Tally {
                 && (signed(0), signed(1)) == (0, 0)
                 && self.sent_within
     }
+}
+
+/// Each figure with a comma before it.
+fn fields<T: std::fmt::Display>(figures: &[T]) -> String {
+    figures.iter().map(|figure| format!(",{}", figure)).collect()
 }

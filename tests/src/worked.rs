@@ -2,7 +2,14 @@
 //! paper's own.
 
 use crate::count::Count;
-use crate::recorder::{self, End, Month, Plant, Sums, Table};
+use crate::recorder::{self, End, Month, Plant, Stated, Sums, Table};
+
+/// The example's output, whole.
+const STATEMENT: &[u8] = b"A,1,10,85,0,0,0,45,58500
+A,1,11,43,0,0,0,-23,-29900
+A,2,20,22,30,0,0,-22,-28600
+T,1,3,150,30,0,0,180
+";
 
 const NOTHING: [[u64; 4]; 4] = [[0; 4]; 4];
 
@@ -22,7 +29,8 @@ struct Hour<'a> {
 }
 
 pub fn run(count: &mut Count) {
-    hours(count);
+    three_plants(count);
+    one_plant(count);
     example(count);
 }
 
@@ -34,7 +42,8 @@ fn three(q1: u64, q2: u64, q3: u64) -> [Plant; 3] {
     [plant(1, 10, q1), plant(1, 11, q2), plant(2, 20, q3)]
 }
 
-fn hours(count: &mut Count) {
+/// m1, m2 and m5.
+fn three_plants(count: &mut Count) {
     // Submarket 1 is left 45 − 23 = 22 kWh, and submarket 2 needs 22: b is 85, 43, 52.
     let m1 = Hour {
         what: "m1",
@@ -49,60 +58,61 @@ fn hours(count: &mut Count) {
         allotment: &[85, 0, 0, 0, 43, 0, 0, 0, 22, 30, 0, 0],
         nets: &[45, -23, -22],
     };
-    settled(count, &m1);
     // Submarket 1 is left 100 − 50 = 50 kWh, 20 of them cover plant 20; of the 30 then left it keeps 21 and sends 9.
-    settled(
-        count,
-        &Hour {
-            what: "m2",
-            profile: &[240],
-            metered: &[200, 0, 40],
-            secondary: 30,
-            cover_table: [[0, 20, 0, 0], [0; 4], [0; 4], [0; 4]],
-            secondary_table: [[0, 9, 0, 0], [0; 4], [0; 4], [0; 4]],
-            allotment: &[114, 0, 0, 0, 57, 0, 0, 0, 29, 40, 0, 0],
-            nets: &[86, -57, -29],
-            ..m1
-        },
-    );
-    let alone = Hour {
+    let m2 = Hour {
+        what: "m2",
+        profile: &[240],
+        metered: &[200, 0, 40],
+        secondary: 30,
+        cover_table: [[0, 20, 0, 0], [0; 4], [0; 4], [0; 4]],
+        secondary_table: [[0, 9, 0, 0], [0; 4], [0; 4], [0; 4]],
+        allotment: &[114, 0, 0, 0, 57, 0, 0, 0, 29, 40, 0, 0],
+        nets: &[86, -57, -29],
+        ..m1
+    };
+    let m5 = Hour {
+        what: "m5",
+        plants: &three(0, 0, 0),
+        secondary: 180,
+        guarantees: 0,
+        cover_table: NOTHING,
+        allotment: &[130, 0, 0, 0, 20, 0, 0, 0, 0, 30, 0, 0],
+        nets: &[0, 0, 0],
+        ..m1
+    };
+    for hour in [m1, m2, m5] {
+        settled(count, &hour);
+    }
+}
+
+/// m3 and m4: one plant, which keeps what it generates.
+fn one_plant(count: &mut Count) {
+    let m3 = Hour {
         what: "m3",
         plants: &[plant(1, 1, 100)],
         profile: &[1, 1, 1],
+        due: 1,
         metered: &[1],
+        secondary: 0,
+        guarantees: 33,
         cover_table: NOTHING,
+        secondary_table: NOTHING,
         allotment: &[1, 0, 0, 0],
         nets: &[0],
-        ..m1
     };
+    let m4 = Hour {
+        what: "m4",
+        plants: &[Plant { loss: 970_000, availability: 900_000, ..plant(1, 1, 101) }],
+        profile: &[87],
+        metered: &[87],
+        guarantees: 87,
+        allotment: &[87, 0, 0, 0],
+        ..m3
+    };
+    settled(count, &m4);
     for (due, guarantees) in [(1, 33), (2, 33), (3, 34)] {
-        settled(count, &Hour { due, guarantees, ..alone });
+        settled(count, &Hour { due, guarantees, ..m3 });
     }
-    settled(
-        count,
-        &Hour {
-            what: "m4",
-            plants: &[Plant { loss: 970_000, availability: 900_000, ..plant(1, 1, 101) }],
-            profile: &[87],
-            metered: &[87],
-            guarantees: 87,
-            allotment: &[87, 0, 0, 0],
-            ..alone
-        },
-    );
-    settled(
-        count,
-        &Hour {
-            what: "m5",
-            plants: &three(0, 0, 0),
-            secondary: 180,
-            guarantees: 0,
-            cover_table: NOTHING,
-            allotment: &[130, 0, 0, 0, 20, 0, 0, 0, 0, 30, 0, 0],
-            nets: &[0, 0, 0],
-            ..m1
-        },
-    );
 }
 
 fn settled(count: &mut Count, hour: &Hour) {
@@ -126,7 +136,7 @@ fn settled(count: &mut Count, hour: &Hour) {
     count.tried("hours of 01 worked by hand, m1 to m5");
 }
 
-/// 01's file as calls, and the figures of its statement: the A lines are the ledger, the T line is the balance.
+/// 01's file as calls, and its statement: the A lines are the ledger, the T line is the balance.
 fn example(count: &mut Count) {
     let plants = three(100, 50, 60);
     let (mut allotment, mut allotted, mut accounts) = ([7; 12], [7; 12], [7; 6]);
@@ -155,4 +165,14 @@ fn example(count: &mut Count) {
     let end = recorder::close(hour.month);
     step(end == End { number: 0, month: closed }, "close");
     step(recorder::balance(end.month, &allotted, &accounts) == Sums { month: closed, ..wanted }, "balance after close");
+
+    let mut bytes = [b'.'; 128 * 3 + 128];
+    let stated = recorder::statement(closed, &plants, &allotted, &accounts, &mut bytes);
+    let written = STATEMENT.len();
+    let rest = bytes[written..].iter().all(|&b| b == b'.');
+    step(stated == Stated { number: 0, month: closed, length: written as u64 }, "statement");
+    step(bytes.starts_with(STATEMENT) && rest, "the statement's bytes");
+    let sized = recorder::size(closed, &plants, &allotted, &accounts);
+    let free = written as u64 <= sized.size && sized.size <= bytes.len() as u64;
+    step(sized.number == 0 && sized.month == closed && free, "size");
 }

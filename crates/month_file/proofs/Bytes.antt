@@ -39,7 +39,7 @@ pub too-long : (k : ℕ) (p : Progress) (l : FileLine) → isRefused p ≡ false
 unfolding read readNumber firstNo outcome
 too-long k p l e h = reads k p l e ∙ rw (lt-leb (length (l .bytes)) 8192 h)
 
-unfinished-some : (line : List ℕ) → 0 < length line → unfinished line ≡ record { bytes = line; ended = false } ∷ []
+pub unfinished-some : (line : List ℕ) → 0 < length line → unfinished line ≡ record { bytes = line; ended = false } ∷ []
 unfolding unfinished
 unfinished-some [] h = absurd (omega arith)
 unfinished-some (b ∷ bs) h = refl

@@ -6,3 +6,7 @@ pub mod Moves
 pub mod Opened
 pub mod Gathered
 pub mod Settled
+pub mod Taken
+pub mod Parts
+pub mod Ends
+pub mod Run

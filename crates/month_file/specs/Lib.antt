@@ -3,3 +3,4 @@ pub mod File
 pub mod Worked
 pub mod Bytes
 pub mod Machine
+pub mod Run

@@ -6,14 +6,16 @@ use mathlib.Core.List.{List}
 use lib.Dec.{eqb, leb, ltb}
 use lib.IntN.{ℤ}
 use lib.ListN.{length, take, drop, set, getD}
+use Rattle.lists.specs.Questions.{outcome}
+use Rattle.lines.specs.Reading.{readNumber}
 use Rattle.hour.specs.declared.Plant.{Plant}
 use Rattle.hour.specs.Table.{plantsOf}
 use Rattle.ledger.specs.Ledger.{Ledger, inBounds}
 use Rattle.month.specs.declared.Month.{Month}
 use Rattle.questions.specs.Questions.{rowsNumber}
 use Rattle.month_file.specs.declared.MonthFile.{MonthFile}
-use Rattle.month_file.specs.File.{Progress, begins, gathers, settles, refuses, opened, settled}
-use Rattle.month_file.specs.Bytes.{Reading, isRefused, fed}
+use Rattle.month_file.specs.File.{Progress, begins, gathers, settles, refuses, opened, settled, printed}
+use Rattle.month_file.specs.Bytes.{Reading, isRefused, fed, start, finished}
 
 -- The lent lists that hold what was read: the plant table's columns, the profile, the ledger
 pub record Kept : Type 0 where
@@ -175,3 +177,52 @@ openedOf f k =
 unfoldable pub settledOf : MonthFile → Kept → List ℕ → Progress
 settledOf f k metered =
     settled (f .count + 1) (rowsOf (f .month .plants) k) (take (f .month .periods) (k .profile)) (f .month) (ledgerOf (f .month .plants) k) metered
+
+-- the figures of a line in turn are as many as its taking reads
+pub record Figured (f : MonthFile) (figures : List ℕ) : Type 0 where
+  pub due : f .stage ≤ 2
+  pub some : 2 ≤ length figures
+  pub sizes : f .stage ≡ 0 → 3 ≤ length figures
+  pub row : f .stage ≡ 1 → f .rows < f .plants → 5 ≤ length figures
+
+-- ---- parts of the file
+
+-- no byte was read
+pub record Fresh (f : MonthFile) (k : Kept) (line : List ℕ) : Type 0 where
+  pub valid : Valid f k
+  pub stands : readingOf f k line ≡ start
+
+-- the lists that a line is worked in: its bytes, its figures, an hour's allotment
+pub record WorkLists (line figures allotment : List ℕ) : Type 0 where
+  pub bytes : 8192 ≤ length line
+  pub places : length figures ≡ 513
+  pub fours : 4 * 512 ≤ length allotment
+
+-- bytes of a part were taken, up to `to`: the rest of it gives from here on what it gave from `from` on
+pub record Advanced (f : MonthFile) (k : Kept) (line part : List ℕ) (from : ℕ) (r : MonthFile) (q : Kept) (after : List ℕ) (to : ℕ) : Type 0 where
+  pub low : from < to
+  pub high : to ≤ length part
+  pub valid : Valid r q
+  pub same : fed (readingOf f k line) (drop from part) ≡ fed (readingOf r q after) (drop to part)
+
+-- a part was taken: the state and the lists stand for its bytes, one by one
+pub record Fed (f : MonthFile) (k : Kept) (line part : List ℕ) (r : MonthFile) (q : Kept) (after : List ℕ) : Type 0 where
+  pub valid : Valid r q
+  pub stands : readingOf r q after ≡ fed (readingOf f k line) part
+
+-- ---- the end of the file
+
+-- a line without its byte 10: 26 to 30 come first, then 31
+unfoldable pub unendedNumber : List ℕ → ℕ
+unendedNumber line = outcome (readNumber line 513) 31 (λ n. n)
+
+-- the month is open and its last period is settled
+pub record Finishable (f : MonthFile) (k : Kept) : Type 0 where
+  pub valid : Valid f k
+  pub settling : f .stage ≡ 2
+  pub last : f .month .due ≡ f .month .periods + 1
+
+-- the input has ended: r is refused, or its last period is settled, and it prints what f and the line that has begun print
+pub record Ended (f : MonthFile) (k : Kept) (line : List ℕ) (r : MonthFile) : Type 0 where
+  pub prints : finished (readingOf f k line) ≡ printed (r .count) (progressOf r k)
+  pub finishable : r .stage ≤ 2 → Finishable r k

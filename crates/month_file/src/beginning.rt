@@ -1,10 +1,31 @@
-// A line in turn is taken: what it holds is kept, and the month opened and settled.
+// Before the first line, and the first line.
 use crate::MonthFile;
+use crate::opening::blank;
 use questions::sizes_number;
 ghost use mathlib.Core.Path.{_≡_};
-ghost use Prim.Native.Nat.{_+_};
+ghost use mathlib.Core.List.{List};
+ghost use Prim.Native.Nat.{ℕ, _+_};
 ghost use Rattle.month_file.specs.File.{begun};
-ghost use Rattle.month_file.specs.Machine.{Kept, Lent, Moved};
+ghost use Rattle.month_file.specs.Machine.{Kept, Lent, Fresh, Moved};
+
+// Before the first byte.
+pub fn fresh() -> MonthFile
+    ensures { λ r. ⌜ ((k : Kept) (line : List ℕ) → Lent k → Fresh r k line) ⌝ }
+{
+    let month = blank();
+    MonthFile {
+        stage: 0,
+        length: 0,
+        count: 0,
+        plants: 0,
+        periods: 0,
+        tariff: 0,
+        rows: 0,
+        figures: 0,
+        month,
+        number: 0,
+    }
+}
 
 // 2 to 4 on the first line.
 pub fn begun(file: MonthFile, periods: u64, plants: u64, tariff: u64) -> MonthFile

@@ -5,12 +5,15 @@ ghost use mathlib.Core.Path.{_≡_};
 ghost use Prim.Native.Nat.{_<_};
 ghost use Rattle.month_file.specs.Machine.{atStage, atRefusal};
 
-mod beginning;
+pub mod beginning;
 mod collecting;
+pub mod feeding;
+pub mod finishing;
 mod gathering;
 mod keeping;
 mod opening;
 mod settling;
+mod taking;
 mod turns;
 
 // How far the file has come. Stages: 0 the first line is due, 1 P and H lines, 2 G lines, 3 refused.

@@ -8,7 +8,7 @@ ghost use Rattle.month_file.specs.File as definition;
 ghost use Rattle.month_file.specs.Machine.{kept, rowsOf, Lent, Moved, Openable, openedOf};
 
 // A blank month.
-fn blank() -> Month
+pub fn blank() -> Month
     ensures { λ r. ⌜ r ≡ definition.blank ⌝ }
 {
     Month {

@@ -1,0 +1,230 @@
+-- The end of the file: the refusal, or the statement after close. Assumes nothing.
+use mathlib.Core.Path.{_≡_, refl, sym, ap, ap₂, subst, _∙_}
+use mathlib.Core.Bool.{Bool, true, false, cond}
+use mathlib.Core.List.{List, [], _∷_, _++_, map}
+use Prim.Native.Nat.{ℕ, zero, suc, _+_, _-_, _*_, _^_, _≤_, _<_}
+use native.Mathlib.Omega.{arith}
+use borrow.Author.Tests.{eq-eqb, ne-eqb}
+use lib.Dec.{eqb}
+use lib.ListN.{length, take, drop, getD, length-append}
+use lib.Seq.{length-take-le}
+use Rattle.lists.specs.Lists.{Within}
+use Rattle.lists.specs.Questions.{outcome}
+use Rattle.lists.proofs.Questions.{accepted, refuses, outcome-part, asked, both, limits, then-zero}
+use Rattle.lines.specs.Figures.{figure, figureLength}
+use Rattle.lines.specs.Reading.{readNumber, ReadEnd, readCall}
+use Rattle.lines.specs.declared.reading.Line.{Line}
+use Rattle.lines.proofs.Accepted.{read-number}
+use Rattle.lines.proofs.Decimal.{length-le-20}
+use Rattle.hour.specs.declared.Plant.{Plant}
+use Rattle.hour.specs.Table.{plantsOf}
+use Rattle.ledger.specs.Ledger.{Ledger}
+use Rattle.month.specs.declared.Month.{Month}
+use Rattle.month.specs.declared.Ended as month
+use Rattle.questions.specs.Questions.{placed, numbered, rowNumber, rowsNumber}
+use Rattle.month.specs.Questions.{closeNumber}
+use Rattle.month.specs.Calls.{closeCall}
+use Rattle.statement.specs.Statement.{line, statementText, roomFor}
+use Rattle.statement.specs.Lengths.{statementLength}
+use Rattle.statement.specs.Laws.{InLimits}
+use Rattle.statement.specs.Writing.{Stateable, Room, Fills}
+use Rattle.statement.proofs.Text.{text-columns}
+use Rattle.statement.proofs.Limits.{callable}
+use Rattle.statement.proofs.Parts.{Left, left-whole}
+use Rattle.month_file.specs.declared.MonthFile.{MonthFile}
+use Rattle.month_file.specs.File as file
+use Rattle.month_file.specs.File.{FileLine, unfinished, Progress, begins, gathers, settles, read, refusal, printed, following}
+use Rattle.month_file.specs.Bytes.{Reading, isRefused, finished}
+use Rattle.month_file.specs.Machine.{Kept, rowsOf, ledgerOf, progressOf, readingOf, Settling, Valid, atRefusal, unendedNumber, Finishable, Ended}
+use Rattle.month_file.proofs.Bytes.{stays, reads, unfinished-some}
+use Rattle.month_file.proofs.Rows.{length-rows}
+use Rattle.month_file.proofs.Moves.{refused-moved}
+use Rattle.month_file.proofs.Gathered.{gathers-is}
+use Rattle.month_file.proofs.Taken.{by-stage, begins-is, settles-is, unrefused}
+use Rattle.month_file.proofs.Parts.{refused-progress}
+
+-- ---- the refusal's text, field by field
+
+refusal-is : (k n : ℕ) → refusal k n ≡ (82 ∷ []) ++ ((44 ∷ figure k) ++ ((44 ∷ figure n) ++ (10 ∷ [])))
+unfolding refusal line
+refusal-is k n = refl
+
+pub refusal-short : (k n : ℕ) → k < 2 ^ 64 → n < 2 ^ 64 → length (refusal k n) ≤ 44
+unfolding figureLength
+refusal-short k n a b =
+    let x = length-le-20 k a in
+    let y = length-le-20 n b in
+    rw (refusal-is k n) (omega (arith, length-append (figure k) (44 ∷ (figure n ++ (10 ∷ []))), length-append (figure n) (10 ∷ [])))
+
+pub refusal-left : (k n : ℕ) (text : List ℕ) → k < 2 ^ 64 → n < 2 ^ 64 → 44 ≤ length text
+    → Left (refusal k n) 0 text 0 text ((82 ∷ []) ++ ((44 ∷ figure k) ++ ((44 ∷ figure n) ++ (10 ∷ []))))
+refusal-left k n text a b h = left-whole (record { fits = omega (arith, refusal-short k n a b) }) (refusal-is k n)
+
+-- ---- a line without its byte 10
+
+unended-number : (line old : List ℕ) {answer : Line} {new : List ℕ} → length old ≡ 513
+    → _≡_ {A = ReadEnd} (record { answer = answer; figures = new }) (readCall line old) → answer .number ≡ readNumber line 513
+unended-number line old many e = read-number line old e ∙ ap (readNumber line) many
+
+module _ (f : MonthFile) (line old new : List ℕ) (answer : Line) (many : length old ≡ 513)
+    (e : _≡_ {A = ReadEnd} (record { answer = answer; figures = new }) (readCall line old)) where
+  pub unended-refused : (r : MonthFile) → r ≡ atRefusal f (answer .number) → (answer .number ≡ 0 → ⊥) → r ≡ atRefusal f (unendedNumber line)
+  unfolding unendedNumber
+  unended-refused r q z = q ∙ ap (atRefusal f) (refuses (answer .number) (readNumber line 513) 31 _ (λ n. n) (unended-number line old many e) z refl)
+
+  pub unended-31 : (r : MonthFile) → r ≡ atRefusal f 31 → answer .number ≡ 0 → r ≡ atRefusal f (unendedNumber line)
+  unfolding unendedNumber
+  unended-31 r q z = q ∙ ap (atRefusal f) (sym (accepted (readNumber line 513) 31 (λ n. n) (sym (unended-number line old many e) ∙ z)))
+
+unended-reads : (k : ℕ) (p : Progress) (bytes : List ℕ) → read k p (record { bytes = bytes; ended = false }) ≡ file.refuses k (unendedNumber bytes)
+unfolding read unendedNumber
+unended-reads k p bytes = sym (outcome-part (file.refuses k) (readNumber bytes 513) 31 (λ n. n))
+
+-- ---- the state after the last byte
+
+module _ (f : MonthFile) (k : Kept) (v : Valid f k) (line : List ℕ) where
+  pub ended-refused : 2 < f .stage → Ended f k line f
+  unfolding finished readingOf printed
+  ended-refused s =
+      record {
+        prints = rw (refused-progress f k s) (stays (f .count) (f .count) (f .number) (unfinished (take (f .length) line)));
+        finishable = λ h. absurd (omega arith);
+      }
+
+  -- refused at the end
+  at-refusal : (n : ℕ) (r : MonthFile) → r ≡ atRefusal f n → finished (readingOf f k line) ≡ refusal (f .count + 1) n → Ended f k line r
+  unfolding printed progressOf atRefusal
+  at-refusal n r e p = record { prints = rw e p; finishable = λ h. absurd (omega (arith, ap (λ (m : MonthFile). m .stage) e)) }
+
+  module _ (due : f .stage ≤ 2) where
+    pub ended-line : f .length ≤ length line → (f .length ≡ 0 → ⊥) → (r : MonthFile) → r ≡ atRefusal f (unendedNumber (take (f .length) line)) → Ended f k line r
+    unfolding finished readingOf following printed
+    ended-line fits some r e =
+        at-refusal _ r e
+        (rw (unfinished-some (take (f .length) line) (omega (arith, length-take-le (f .length) line fits)))
+        (ap (printed (f .count + 1)) (reads (f .count + 1) (progressOf f k) _ (unrefused f k v due) ∙ unended-reads (f .count + 1) (progressOf f k) (take (f .length) line))))
+
+    module _ (none : f .length ≡ 0) where
+      no-line : finished (readingOf f k line) ≡ printed (f .count) (progressOf f k)
+      unfolding finished readingOf following unfinished
+      no-line = rw none
+
+      pub ended-early : (f .stage ≡ 2 → ⊥) → (r : MonthFile) → r ≡ atRefusal f 31 → Ended f k line r
+      unfolding printed
+      ended-early h r e =
+          at-refusal 31 r e (no-line ∙ by-stage (f .stage) due (λ q. ap (printed (f .count)) (begins-is f k q)) (λ q. ap (printed (f .count)) (gathers-is f k q)) (λ q. absurd (h q)))
+
+      pub ended-short : f .stage ≡ 2 → f .month .due ≤ f .month .periods → (r : MonthFile) → r ≡ atRefusal f 31 → Ended f k line r
+      unfolding printed
+      ended-short h d r e =
+          at-refusal 31 r e (no-line ∙ ap (printed (f .count)) (settles-is f k h) ∙ rw (ne-eqb (f .month .due) (f .month .periods + 1) (λ q. omega arith)))
+
+      pub ended-settled : f .stage ≡ 2 → f .month .periods < f .month .due → Ended f k line f
+      ended-settled h d =
+          record { prints = no-line; finishable = λ _. record { valid = v; settling = h; last = omega (arith, v .settling h .due) } }
+
+-- ---- the statement after close
+
+-- rows that passed 5 and 6
+rows-shown : (s n : ℕ) (ps : List Plant) → rowsNumber s n ps ≡ 0
+    → (i : ℕ) → (getD (map (λ (p : Plant). p .submarket) ps) i 0 ≤ 4) × (getD (map (λ (p : Plant). p .number) ps) i 0 ≤ 999999)
+unfolding rowsNumber rowNumber placed numbered
+rows-shown s n [] e i = (omega arith, omega arith)
+rows-shown s n (p ∷ ps) e zero =
+    let q₅ = asked _ _ _ tt (then-zero _ _ e .0) in
+    let q₆ = asked _ _ _ tt (q₅ .1) in
+    (limits _ _ _ (both _ _ (q₅ .0) .0) .1, limits _ _ _ (both _ _ (q₆ .0) .0) .1)
+rows-shown s n (p ∷ ps) e (suc i) = rows-shown (p .submarket) (p .number) ps (then-zero _ _ e .1) i
+
+same-either : (n x : ℕ) → outcome n x (λ _. x) ≡ x
+unfolding outcome
+same-either zero x = refl
+same-either (suc n) x = refl
+
+-- close leaves the period that is due
+close-due : (m : Month) → closeCall m .month .due ≡ m .due
+unfolding closeCall
+close-due m = outcome-part (λ (r : month.Ended). r .month .due) (closeNumber m) _ _ ∙ same-either (closeNumber m) (m .due)
+
+module _ (f : MonthFile) (k : Kept) (w : Finishable f k) (end : month.Ended) (e : end ≡ closeCall (f .month)) where
+  abbrev m : Month
+  m = f .month
+
+  abbrev rows : List Plant
+  rows = rowsOf (m .plants) k
+
+  abbrev ledger : Ledger
+  ledger = ledgerOf (m .plants) k
+
+  g : Settling f k
+  g = w .valid .settling (w .settling)
+
+  prints : printed (f .count) (progressOf f k) ≡ outcome (end .number) (statementText (end .month .due - 1) rows ledger) (refusal (f .count))
+  unfolding printed
+  prints = ap (printed (f .count)) (settles-is f k (w .settling)) ∙ rw (eq-eqb (m .due) (m .periods + 1) (w .last), ← e)
+
+  pub closing-refused : {before : List ℕ} {r : ℕ} {after : List ℕ} → (end .number ≡ 0 → ⊥) → Fills (refusal (f .count) (end .number)) before r after
+      → Fills (printed (f .count) (progressOf f k)) before r after
+  closing-refused {before} {r} {after} z h =
+      subst (λ (t : List ℕ). Fills t before r after) (refuses (end .number) (end .number) _ _ (refusal (f .count)) refl z refl ∙ sym prints) h
+
+  module _ (z : end .number ≡ 0) where
+    month-due : end .month .due ≡ m .due
+    month-due = ap (λ (r : month.Ended). r .month .due) e ∙ close-due m
+
+    abbrev settled : ℕ
+    settled = end .month .due - 1
+
+    pub some-due : 1 ≤ end .month .due
+    some-due = omega (arith, month-due, w .last)
+
+    abbrev ss : List ℕ
+    ss = take (m .plants) (k .submarket)
+
+    abbrev ns : List ℕ
+    ns = take (m .plants) (k .number)
+
+    p-rows : length rows ≡ m .plants
+    p-rows = length-rows k (w .valid .lent) (m .plants) (g .plants)
+
+    in-limits : InLimits settled rows ledger
+    unfolding ledgerOf
+    in-limits =
+        record {
+          few = omega (arith, p-rows, g .plants);
+          periods = omega (arith, month-due, w .last, g .periods);
+          submarkets = record { at = λ i. rows-shown 0 0 rows (g .rows) i .0 };
+          numbers = record { at = λ i. rows-shown 0 0 rows (g .rows) i .1 };
+          figures = length-take-le (4 * m .plants) (k .allotted) (omega (arith, g .plants, w .valid .lent .allotted)) ∙ ap (λ (n : ℕ). 4 * n) (sym p-rows);
+          nets = length-take-le (2 * m .plants) (k .accounts) (omega (arith, g .plants, w .valid .lent .accounts)) ∙ ap (λ (n : ℕ). 2 * n) (sym p-rows);
+          bounded = g .bounded;
+        }
+
+    s-rows : length ss ≡ m .plants
+    s-rows = length-take-le (m .plants) (k .submarket) (omega (arith, g .plants, w .valid .lent .submarket))
+
+    n-rows : length ns ≡ m .plants
+    n-rows = length-take-le (m .plants) (k .number) (omega (arith, g .plants, w .valid .lent .number))
+
+    pub statable : (text : List ℕ) → 128 * 512 + 128 ≤ length text
+        → Stateable ss ns ledger × (statementLength settled (plantsOf ss ns [] [] []) ledger ≤ length text)
+    unfolding rowsOf roomFor
+    statable text h =
+        let c = callable settled ss ns _ _ _ ledger (n-rows ∙ sym s-rows) in-limits in
+        (c .0, omega (arith, c .1, s-rows, g .plants))
+
+    pub closing-stated : {before : List ℕ} {r : ℕ} {after : List ℕ} → Fills (statementText settled (plantsOf ss ns [] [] []) ledger) before r after
+        → Fills (printed (f .count) (progressOf f k)) before r after
+    unfolding rowsOf
+    closing-stated {before} {r} {after} h =
+        subst (λ (t : List ℕ). Fills t before r after) (sym (text-columns settled ss ns _ _ _ ledger) ∙ sym (accepted (end .number) _ (refusal (f .count)) z) ∙ sym prints) h
+
+-- ---- what is printed
+
+module _ (f : MonthFile) (k : Kept) (line : List ℕ) (r : MonthFile) (e : Ended f k line r) {before : List ℕ} {n : ℕ} {after : List ℕ} where
+  pub finishes : Fills (printed (r .count) (progressOf r k)) before n after → Fills (finished (readingOf f k line)) before n after
+  finishes h = subst (λ (t : List ℕ). Fills t before n after) (sym (e .prints)) h
+
+  pub finishes-refused : 2 < r .stage → Fills (refusal (r .count) (r .number)) before n after → Fills (finished (readingOf f k line)) before n after
+  unfolding printed
+  finishes-refused s h = finishes (subst (λ (t : List ℕ). Fills t before n after) (ap (printed (r .count)) (sym (refused-progress r k s))) h)

@@ -1,0 +1,36 @@
+-- `finishing::write_month` meets its contract. Assumes nothing.
+use native.Mathlib.Omega.{arith}
+use borrow.Author.Needs.{needs}
+use Rattle.month_file.specs.Machine.{Kept, kept, ledgerOf, Settling}
+use Rattle.month_file.proofs.Opened.{front-count}
+use Rattle.month_file.proofs.Ends.{closing-refused, some-due, statable, closing-stated}
+use Rattle.month_file.proofs.finishing.write_month.Statement.{statement}
+use Rattle.month_file.proofs.finishing.write_month.Tie as tie
+
+abbrev lists : tie.Start → Kept
+lists s =
+    let a = s .args in
+    kept (a .submarket .now) (a .number .now) (a .guarantee .now) (a .loss .now) (a .availability .now) (a .profile .now) (a .allotted .now) (a .accounts .now)
+
+known : (s : tie.Start) → Settling (s .args .file) (lists s)
+known s = s .pre .0 .valid .settling (s .pre .0 .settling)
+
+pub write-month-spec : {M : Type 1} → statement M
+unfolding ledgerOf
+write-month-spec =
+    tie.close
+    (tie.spec
+    (λ c κs. search needs)  -- close-requires
+    (λ c κs. search needs)  -- write-refusal-requires
+    (λ c. search needs)  -- same-length
+    (λ c. let s = c .before .before .before .before .before .before .before .before .before .before .before .before .before .before .before .before in closing-refused _ (lists s) (s .pre .0) _ (c .before .before .before .before .before .before .close .ensures) (c .before .before .before .before .if1 .taken) (c .before .before .write-refusal .ensures))  -- returns
+    (λ c. let s = c .before .before .before .before .before .before .before .before .before .before .before .before .before in let g = known s in omega (arith, g .plants))  -- mul-fours
+    (λ c. let s = c .before .before .before .before .before .before .before .before .before .before .before .before .before in let g = known s in omega (arith, g .plants))  -- mul-twos
+    (λ c. let s = c .before .before .before .before .before .before .before .before .before .before .before .before .before .before in some-due _ (lists s) (s .pre .0) _ (c .before .before .before .before .close .ensures) (c .before .before .if1 .left))  -- sub-write-statement
+    (λ c. let s = c .before .before .before .before .before .before .before .before .before .before .before .before .before .before .before in front-count _ _ (omega (arith, known s .plants, s .pre .0 .valid .lent .submarket)))  -- slice-aggregate-write-statement
+    (λ c. let s = c .before .before .before .before .before .before .before .before .before .before .before .before .before .before .before .before in front-count _ _ (omega (arith, known s .plants, s .pre .0 .valid .lent .number)))  -- slice-aggregate-write-statement-2
+    (λ c. let s = c .before .before .before .before .before .before .before .before .before .before .before .before .before .before .before .before .before in front-count _ _ (omega (arith, known s .plants, s .pre .0 .valid .lent .allotted)))  -- slice-aggregate-write-statement-3
+    (λ c. let s = c .before .before .before .before .before .before .before .before .before .before .before .before .before .before .before .before .before .before in front-count _ _ (omega (arith, known s .plants, s .pre .0 .valid .lent .accounts)))  -- slice-aggregate-write-statement-4
+    (λ c κs. let s = c .before .before .before .before .before .before .before .before .before .before .before .before .before .before .before .before .before .before .before in statable _ (lists s) (s .pre .0) _ (c .before .before .before .before .before .before .before .before .before .close .ensures) (c .before .before .before .before .before .before .before .if1 .left) (s .args .text .now) (s .pre .1))  -- write-statement-requires
+    (λ c. search needs)  -- same-length-2
+    (λ c. let s = c .before .before .before .before .before .before .before .before .before .before .before .before .before .before .before .before .before .before .before .before .before .before in closing-stated _ (lists s) (s .pre .0) _ (c .before .before .before .before .before .before .before .before .before .before .before .before .close .ensures) (c .before .before .before .before .before .before .before .before .before .before .if1 .left) (c .before .before .write-statement .ensures)))  -- returns-2

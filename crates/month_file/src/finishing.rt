@@ -1,0 +1,130 @@
+// The end of the file: the statement after close, or the refusal, is written.
+use crate::MonthFile;
+use lines::figures::write_byte;
+use lines::figures::write_field;
+use lines::reading::read_line;
+use statement::writing::write_statement;
+ghost use mathlib.Core.Path.{_≡_};
+ghost use Prim.Native.Nat.{_+_, _*_, _≤_, _<_};
+ghost use lib.ListN.{length};
+ghost use Rattle.statement.specs.Writing.{Fills};
+ghost use Rattle.month_file.specs.File.{refusal, printed};
+ghost use Rattle.month_file.specs.Bytes.{finished};
+ghost use Rattle.month_file.specs.Machine.{Kept, kept, progressOf, readingOf, Valid, atRefusal, unendedNumber, Ended, Finishable};
+
+// `R,line,number` alone.
+fn write_refusal(line: u64, number: u64, text: &mut [u8]) -> usize
+    requires { ⌜ 44 ≤ length (now text) ⌝ }
+    ensures { λ r. ⌜ Fills (refusal line number) (now (text .entry)) r (now (text .exit)) ⌝ }
+{
+    let end = write_byte(b'R', text, 0);
+    let end = write_field(line, text, end);
+    let end = write_field(number, text, end);
+    write_byte(b'\n', text, end)
+}
+
+// A line without its byte 10: 26 to 30 first, then 31.
+fn unended(file: MonthFile, line: &[u8], figures: &mut [u64]) -> MonthFile
+    requires { ⌜ (file .count < 10000) × (length (now figures) ≡ 513) ⌝ }
+    ensures { λ r. ⌜ r ≡ atRefusal file (unendedNumber (now (line .entry))) ⌝ }
+{
+    let answer = read_line(line, figures);
+    if answer.number != 0 {
+        return file.refused(answer.number);
+    }
+    file.refused(31)
+}
+
+// The state after the last byte. An early end is 31 too, as the line after the last.
+fn at_end(file: MonthFile, line: &[u8], figures: &mut [u64]) -> MonthFile
+    requires { ⌜ (file .stage ≤ 2 → file .count < 10000) × (file .length ≤ length (now line)) × (length (now figures) ≡ 513) ⌝ }
+    ensures { λ r. ⌜ ((k : Kept) → Valid file k → Ended file k (now (line .entry)) r) ⌝ }
+{
+    if 2 < file.stage {
+        return file;
+    }
+    let length = file.length;
+    if length != 0 {
+        return unended(file, &line[..length], figures);
+    }
+    if file.stage != 2 {
+        return file.refused(31);
+    }
+    let month = file.month;
+    if month.due <= month.periods {
+        return file.refused(31);
+    }
+    file
+}
+
+// Every period is settled: the month is closed, and its statement written.
+fn write_month(
+    file: MonthFile,
+    submarket: &[u64],
+    number: &[u64],
+    guarantee: &[u64],
+    loss: &[u64],
+    availability: &[u64],
+    profile: &[u64],
+    allotted: &[u64],
+    accounts: &[i64],
+    text: &mut [u8],
+) -> usize
+    requires { ⌜ Finishable file (kept (now submarket) (now number) (now guarantee) (now loss) (now availability) (now profile) (now allotted) (now accounts)) × (128 * 512 + 128 ≤ length (now text)) ⌝ }
+    ensures { λ r. ⌜ Fills (printed (file .count) (progressOf file (kept (now (submarket .entry)) (now (number .entry)) (now (guarantee .entry)) (now (loss .entry)) (now (availability .entry)) (now (profile .entry)) (now (allotted .entry)) (now (accounts .entry))))) (now (text .entry)) r (now (text .exit)) ⌝ }
+{
+    let month = file.month;
+    let end = month.close();
+    if end.number != 0 {
+        return write_refusal(file.count, end.number, text);
+    }
+    let closed = end.month;
+    let rows = month.plants as usize;
+    let fours = 4 * rows;
+    let twos = 2 * rows;
+    write_statement(
+        closed.due - 1,
+        &submarket[..rows],
+        &number[..rows],
+        &allotted[..fours],
+        &accounts[..twos],
+        text,
+    )
+}
+
+// The input has ended: what is printed stands at the front of the text, and its length is answered.
+pub fn finish(
+    file: MonthFile,
+    line: &[u8],
+    figures: &mut [u64],
+    submarket: &[u64],
+    number: &[u64],
+    guarantee: &[u64],
+    loss: &[u64],
+    availability: &[u64],
+    profile: &[u64],
+    allotted: &[u64],
+    accounts: &[i64],
+    text: &mut [u8],
+) -> usize
+    requires { ⌜ (8192 ≤ length (now line)) × (length (now figures) ≡ 513) × (128 * 512 + 128 ≤ length (now text)) ⌝ }
+    requires { ⌜ Valid file (kept (now submarket) (now number) (now guarantee) (now loss) (now availability) (now profile) (now allotted) (now accounts)) ⌝ }
+    ensures { λ r. ⌜ Fills (finished (readingOf file (kept (now (submarket .entry)) (now (number .entry)) (now (guarantee .entry)) (now (loss .entry)) (now (availability .entry)) (now (profile .entry)) (now (allotted .entry)) (now (accounts .entry))) (now (line .entry)))) (now (text .entry)) r (now (text .exit)) ⌝ }
+{
+    let end = at_end(file, line, figures);
+    if 2 < end.stage {
+        return write_refusal(end.count, end.number, text);
+    }
+    write_month(
+        end,
+        submarket,
+        number,
+        guarantee,
+        loss,
+        availability,
+        profile,
+        allotted,
+        accounts,
+        text,
+    )
+}

@@ -88,6 +88,15 @@ typedef struct {
     iolwarch_table table;
 } iolwarch_transferred;
 
+/* A plant record: submarket 1 to 4, number, monthly guarantee Q in kWh, loss and availability factors in millionths. */
+typedef struct {
+    uint64_t submarket;
+    uint64_t number;
+    uint64_t guarantee;
+    uint64_t loss;
+    uint64_t availability;
+} iolwarch_plant;
+
 /* The month. Stage: 0 blank, 1 open, 2 closed; any other number is read as blank. A month of zeros is a blank one. */
 typedef struct {
     uint64_t stage;
@@ -97,11 +106,21 @@ typedef struct {
     uint64_t due;     /* the period due, from 1 */
 } iolwarch_month;
 
-/* The answer of close. */
+/* The answer of open and of close. */
 typedef struct {
     uint64_t number;
     iolwarch_month month;
 } iolwarch_end;
+
+/* The answer of settle: Z, A (the sum of the guarantees after losses and availability) and both transfer tables. */
+typedef struct {
+    uint64_t number;
+    iolwarch_month month;
+    uint64_t secondary;
+    uint64_t guarantees;
+    iolwarch_table cover_table;
+    iolwarch_table secondary_table;
+} iolwarch_settled;
 
 /* The answer of balance: the sum of each submarket's column, of the nets (kWh) and of the money (thousandths of a
  * centavo). */
@@ -112,6 +131,20 @@ typedef struct {
     int64_t net;
     int64_t money;
 } iolwarch_sums;
+
+/* The answer of statement: the statement's length in bytes. */
+typedef struct {
+    uint64_t number;
+    iolwarch_month month;
+    uint64_t length;
+} iolwarch_stated;
+
+/* The answer of statement_size: as many bytes as the statement has, or more, and at most 128P + 128. */
+typedef struct {
+    uint64_t number;
+    iolwarch_month month;
+    uint64_t size;
+} iolwarch_sized;
 
 /* The answer of reading a line. Start: 1 "MRE,1,", 2 "P,", 3 "H,", 4 "G,". */
 typedef struct {
@@ -131,6 +164,38 @@ typedef struct {
  * signed figures a plant, net kWh before money in thousandths of a centavo. For P plants they have 4P and 2P figures.
  */
 
+/* Opens a month: the ledger is set to zeros, and period 1 is due. A closed month may be opened over.
+ *
+ * Takes    a month that is not open; P plants; the profile, the pool's whole generation in each of H periods; the
+ *          tariff TEO; the ledger's lists, of 4P and 2P figures with any content.
+ * Answers  0 and the open month, or 1 to 11 and the month as it came.
+ * Leaves   with 0 the ledger all zeros; otherwise as it was. Plants and profile are only read.
+ */
+iolwarch_end iolwarch_open(iolwarch_month month,
+                           const iolwarch_plant *plants, size_t plants_length,
+                           const uint64_t *profile, size_t profile_length,
+                           uint64_t tariff,
+                           uint64_t *allotted, size_t allotted_length,
+                           int64_t *accounts, size_t accounts_length);
+
+/* Settles the period due: each plant's kWh are allotted over the four submarkets, and its net and its money posted.
+ *
+ * Takes    an open month; plants and profile again, as many as the month has (a plant is its row, in the submarket
+ *          that this table gives it); P metered figures, which add up to the profile's figure for the period due; an
+ *          allotment list of 4P figures; the ledger's lists.
+ * Answers  0, the month with the next period due, Z, A and both tables, or 2 to 19, the month as it came and zeros.
+ *          The questions are put in this order: 12, 2 to 4, 13, 5 to 11, 14 to 19.
+ * Leaves   with 0 the hour's figures in the allotment list, four a plant, and the ledger with these, the nets and net x
+ *          TEO added; otherwise all three lists as they were. Plants, profile and metered figures are only read.
+ */
+iolwarch_settled iolwarch_settle(iolwarch_month month,
+                                 const iolwarch_plant *plants, size_t plants_length,
+                                 const uint64_t *profile, size_t profile_length,
+                                 const uint64_t *metered, size_t metered_length,
+                                 uint64_t *allotment, size_t allotment_length,
+                                 uint64_t *allotted, size_t allotted_length,
+                                 int64_t *accounts, size_t accounts_length);
+
 /* Sums the ledger. After any list of calls from a blank month the two signed sums are zero.
  *
  * Takes    a month that is not blank, and the ledger's lists.
@@ -148,6 +213,38 @@ iolwarch_sums iolwarch_balance(iolwarch_month month,
  * Leaves   nothing changed: it has no list.
  */
 iolwarch_end iolwarch_close(iolwarch_month month);
+
+/* Writes the statement of a month, open or closed: a line for each plant, then the line of the sums, each with its end
+ * byte 10.
+ *
+ *     A,submarket,number,s1,s2,s3,s4,net,money      one for each row: its kWh in each submarket, net kWh, money
+ *     T,periods settled,P,S1,S2,S3,S4,S             the column sums, and S, the sum of them
+ *
+ * Takes    a month that is not blank; plants again, as many as the month has; the ledger's lists; at least 128P + 128
+ *          bytes for the statement.
+ * Answers  0, the month as it came and the statement's length, or 21, 2, 3, 13, 14, 5 to 8, 11, 19 or 22 (put in this
+ *          order), the month as it came and 0.
+ * Leaves   with 0 the statement at the front of the bytes and the rest of them as they were; otherwise all of them as
+ *          they were. Plants and ledger are only read.
+ */
+iolwarch_stated iolwarch_statement(iolwarch_month month,
+                                   const iolwarch_plant *plants, size_t plants_length,
+                                   const uint64_t *allotted, size_t allotted_length,
+                                   const int64_t *accounts, size_t accounts_length,
+                                   uint8_t *bytes, size_t bytes_length);
+
+/* Sizes a statement: with 128P + 128 bytes lent none is refused with 22, and the statement itself is no longer than
+ * the size answered.
+ *
+ * Takes    what statement takes, without the bytes.
+ * Answers  0, the month as it came and a size between the statement's length and 128P + 128, or a number as for
+ *          statement, but never 22, the month as it came and 0.
+ * Leaves   nothing changed: plants and ledger are only read.
+ */
+iolwarch_sized iolwarch_statement_size(iolwarch_month month,
+                                       const iolwarch_plant *plants, size_t plants_length,
+                                       const uint64_t *allotted, size_t allotted_length,
+                                       const int64_t *accounts, size_t accounts_length);
 
 /* Reads a line of a month file, its end byte 10 removed.
  *

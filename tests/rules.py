@@ -1,5 +1,5 @@
-"""Holds docs/RULES.md and README.md to the repository: each definition, theorem, call and must-fail edit that a row names
-stands where the row says, and README's map has every crate. The last line is 'N passed, M failed'."""
+"""Holds docs/RULES.md and README.md to the repository: each definition, theorem, call, must-fail edit and part of the
+comparison that a row names stands where the row says, and README's map has every crate. The last line is 'N passed, M failed'."""
 import pathlib
 import re
 import sys
@@ -56,6 +56,7 @@ def main():
     proofs = text(CRATES.glob("*/proofs/**/*.antt")) + text(CRATES.glob("*/specs/*.antt"))
     code = text(CRATES.glob("*/src/*.rt"))
     edits = {path.stem for path in CRATES.glob("*/must-fail/*.edit")}
+    parts = set(re.findall(r'\("(\w+)", \w+::run\)', (ROOT / "tests" / "src" / "main.rs").read_text()))
     rows = [line.strip("|").split("|") for line in (ROOT / "docs" / "RULES.md").read_text().splitlines() if re.match(r"\| [A-Z]\d+", line)]
     stands = 0
     seen = set()
@@ -71,6 +72,9 @@ def main():
         for names in re.findall(r"edits? ([\w, ]+)", test):
             for name in names.split(","):
                 check(name.strip() in edits, f"{row}: no must-fail edit {name.strip()}")
+        for names in re.findall(r"compare ([\w, ]+)", re.sub(r"\([^)]*\)", "", test)):
+            for name in names.split(","):
+                check(name.strip() in parts | {"every part"}, f"{row}: no part {name.strip()} of the comparison")
         stands += all((defined, call, proof, test))
     readme = (ROOT / "README.md").read_text()
     for crate in sorted(path.name for path in CRATES.iterdir() if path.is_dir()):

@@ -3,14 +3,14 @@
 
     fn f(params..) -> R { let n = plants.len(); let c = columns(plants); core(.. n, c ..) }
 
-whose parameters are plain structs by value, u64 numbers, `&[T]`, `&mut [T]` (T = u64 or i64) and one `&[Plant]`. The core takes the
+whose parameters are plain structs by value, u64 numbers, `&[T]`, `&mut [T]` (T = u64, i64 or u8) and one `&[Plant]`. The core takes the
 same parameters in the same order, with n and c where the plants stood. The positions in the walk's context are computed here.
 
-The config (JSON): crate, home (the crate of the types, of columns and of the core, if another), walk (true where home has proofs/Walk.antt), fn, core (paths), result (a struct), params (kind struct/num/rows/shr/mut, name, type or of), uses (use lines),
+The config (JSON): crate, home (the crate of the types, of columns and of the core, if another), types (the module of the structs, if not the crate's root), walk (true where home has proofs/Walk.antt), fn, core (paths), result (a struct), params (kind struct/num/rows/shr/mut, name, type or of), uses (use lines),
 outer_fact and core_fact (the two `ensures`, over the parameters' names, ps, n, zs, r and w<i>, the last list of the &mut parameter i), and
 carry: the term that proves outer_fact from `wrote : zs ≡ putRows zeros 0 (take 512 ps)` and `e : core_fact`; {w<i>} stands for a last list.
 """
-import json, sys
+import json, re, sys
 
 def lst(xs): return " ∷ ".join(xs + ["[]"])
 def tup(xs):
@@ -18,6 +18,17 @@ def tup(xs):
     for x in reversed(xs): s = f"({x}, {s})"
     return s
 def proj(i): return " .1" * i + " .0"
+
+def trimmed(head, body):
+    """The `use` lines of head, each with the names alone that body cites."""
+    words = set(re.split(r"[\s(){},;]+", body))
+    out = []
+    for l in head.split("\n"):
+        if not l.endswith("}"): out.append(l); continue
+        mod, names = l[:l.index("{")], l[l.index("{") + 1:-1].split(", ")
+        kept = [n for n in names if n in words or n.strip("_") in words]
+        if kept: out.append(mod + "{" + ", ".join(kept) + "}")
+    return "\n".join(out)
 
 class Ctx:
     def __init__(self, items): self.items, self.out = list(items), []
@@ -43,6 +54,7 @@ def gen(cfg):
     # a module of the home crate: its own library's name inside the crate, its facade's from another
     spec = (lambda m: f"Rattle.{hm}.specs.{m}") if hm == cr else (lambda m: f"Rattle.{hm}.specs.{m}")
     prf = (lambda m: f"Rattle.{hm}.proofs.{m}") if hm == cr else (lambda m: f"Rattle.{hm}.proofs.{m}")
+    within = lambda s: ".".join([*cfg.get("types", []), s])
     mod = ".".join(cfg["fn"]); core = ".".join(cfg["core"]); nm = cfg["fn"][-1].replace("_", "-").strip("«»")
     refs = [i for i, p in enumerate(P) if p["kind"] in ("rows", "shr", "mut")]
     life = {i: j for j, i in enumerate(refs)}; L = len(refs)
@@ -58,7 +70,7 @@ def gen(cfg):
     for i, p in enumerate(P):
         if p["kind"] == "rows": cp += [("n", None), ("c", None)]
         else: cp.append((p["kind"], i))
-    el = {"u64": "ℕ", "i64": "ℤ"}
+    el = {"u64": "ℕ", "i64": "ℤ", "u8": "ℕ"}
     def rty(i):
         p = P[i]; j = life.get(i)
         return {"rows": f"ShrSlice (named {j}) κ{j} P", "shr": f"ShrSlice (named {j}) κ{j} {p.get('of')}", "mut": f"MutSlice (named {j}) κ{j} {p.get('of')}",
@@ -109,21 +121,22 @@ use denote.Triple.Clauses.{ensured, lasts}
 use denote.Triple.Table.{entered, cited}
 use denote.Triple.Walked.{says, Stays, stay-none, stay-none-slice, gave-slice, walkOf, goes-none, goes-none-slice, goes-gave-slice, Walks, ends-at, walked, walk-meets}
 use denote.Exit.{yes}""")
-    head += "\nuse denote.Builtin.{u64, usize" + (", i64}" if i64s else "}")
+    u8s = any(p.get("of") == "u8" for p in P)
+    head += "\nuse denote.Builtin.{u64, usize" + (", i64" if i64s else "") + (", u8" if u8s else "") + "}"
     if i64s: head += "\nuse lib.IntN.{ℤ}"
     if cfg.get("walk"):
         names = []
         for l in head.split("\n"):
             if l.endswith("}"): names += l[l.index("{") + 1:-1].split(", ")
         A(f"use {prf('Walk')}.{{{', '.join(names)}}}"); A("use denote.Struct.Laws as LL")
-    else: A(head)
+    else: A("{head}")
     A("use Rattle.hour.specs.declared.Plant.{Plant}")
-    for s in structs: A(f"use {spec('declared.' + s)}.{{{s}}}")
+    for s in structs: A(f"use {spec('declared.' + within(s))}.{{{s}}}")
     for l in cfg["uses"]: A("use " + l)
     A("use Rattle.records.specs.Records.{Held}")
     A("use Rattle.hour.proofs.Plant as Plant-T")
     for s in structs:
-        A(f"use {prf(s)} as {s}-T"); A(f"use {prf(s)}.Laws as {s}-L")
+        A(f"use {prf(within(s))} as {s}-T"); A(f"use {prf(within(s))}.Laws as {s}-L")
     for a, m in (("c", "Rattle.records.proofs.columns"), ("g", prf(core))):
         A(f"use {m} as {a}"); A(f"use {m}.Symbol as {a}-def"); A(f"use {m}.Symbol.{{name as #{a}}}"); A(f"use {m}.Met as {a}-thm")
     A(f"use Rattle.{cr}.proofs.{mod}.Key.{{name as #f}}"); A(f"use Rattle.{cr}.proofs.{mod} as f"); A(f"use Rattle.{cr}.proofs.{mod}.Statement as stated"); A(f"use Rattle.{cr}.proofs.{mod}.Code as code")
@@ -179,8 +192,10 @@ use denote.Exit.{yes}""")
     wl = {i: f"w{i}" for i in muts}
     wb = " ".join(f"({wl[i]} : List {el[P[i]['of']]})" for i in muts)
     wa = " ".join(wl[i] for i in muts)
-    A(f"  -- what the contract says, and what the core's says\n  abbrev Told : {cfg['result']} → {' → '.join('List ' + el[P[i]['of']] for i in muts)} → Type 0\n  Told r {wa} = {cfg['outer_fact']}\n")
-    A(f"  abbrev Said : List ℕ → {cfg['result']} → {' → '.join('List ' + el[P[i]['of']] for i in muts)} → Type 0\n  Said zs r {wa} = {cfg['core_fact']}\n")
+    wt = " → ".join([cfg["result"]] + ["List " + el[P[i]["of"]] for i in muts] + ["Type 0"])
+    told, said = " ".join(["Told r"] + [wl[i] for i in muts]), " ".join(["Said zs r"] + [wl[i] for i in muts])
+    A(f"  -- what the contract says, and what the core's says\n  abbrev Told : {wt}\n  {told} = {cfg['outer_fact']}\n")
+    A(f"  abbrev Said : List ℕ → {wt}\n  {said} = {cfg['core_fact']}\n")
     # exits
     X = Ctx(["tr", "tc"] + [f"o{i}" for i in range(k) if P[i]["kind"] in ("struct", "rows", "shr")] + [f"w{i}" for i in muts] + ["res"])
     def item(l):
@@ -190,9 +205,9 @@ use denote.Exit.{yes}""")
         if l[0] == "o": return f"‵ Own{l[1:]}"
         i = int(l[1:]); return f"‵ (finally {P[i]['of']} ({v[i]} .name) w{i})"
     xc = lst([item(l) for l in X.items]); xitems = list(X.items)
-    ls = " → ".join([f"length w{i} ≡ length ({v[i]} .now)" for i in muts])
-    A(f"  exits : (r : {cfg['result']}) (u : Val) {wb} → {ls} → Told r {wa} → ent 𝓤 (⋆ 𝓤 H A ({xc})) (Post u)")
-    A(f"  exits r u {wa} {' '.join(f'l{i}' for i in muts)} e =")
+    ls = " → ".join([f"(r : {cfg['result']}) (u : Val) {wb}".rstrip()] + [f"length w{i} ≡ length ({v[i]} .now)" for i in muts] + [told])
+    A(f"  exits : {ls} → ent 𝓤 (⋆ 𝓤 H A ({xc})) (Post u)")
+    A("  " + " ".join(["exits r u"] + [wl[i] for i in muts] + [f"l{i}" for i in muts]) + " e =")
     A(f"      qed W ({xc}) ∵")
     wst = tup([wl.get(i, "tt") for i in range(k)]); fit = tup([f"l{i}" if i in wl else "tt" for i in range(k)])
     A(f"      suffices ! _ (ends-at 𝓤 H A f.ended stayed (f.clauses 𝓤 H A mem run) W bound u r {wst} {fit}) $ says ! e $")
@@ -306,7 +321,7 @@ use denote.Exit.{yes}""")
     lt = "Unit {0}"
     for kd, i in reversed(cp): lt = f"({'List ' + el[P[i]['of']] if kd == 'mut' else 'Unit {0}'} × {lt})"
     wpos = {i: f"ws{proj(x)}" for x, (kd, i) in enumerate(cp) if kd == "mut"}
-    sd = f"(Said zs r {' '.join('(' + wpos[i] + ')' for i in muts)})"
+    sd = "(" + " ".join(["Said zs r"] + ["(" + wpos[i] + ")" for i in muts]) + ")"
     A(f"        split ! $ move ! (1 ∷ []) $ use1 W (some (λ (ws : {lt[1:-1]}). ‵ (lasts g.ended {ckt} (given zs) ws) ⊛ raw (fact 𝓤 {sd}))) (id⊢ 𝓤 _) $ pick ! (λ ws."); closes += 1
     A(f"        split ! $ move ! (1 ∷ []) $ heard ! {sd} (λ e."); closes += 1
     C.replace(1, ["lasts", "ret"])
@@ -327,7 +342,7 @@ use denote.Exit.{yes}""")
     C.say("free0 ! $"); flush()
     carry = cfg["carry"]
     for i in muts: carry = carry.replace("{w%d}" % i, "(" + wpos[i] + ")")
-    A(f"        keep ! ({lst([str(C.pos(l)) for l in xitems])}) $ by ! (exits r w {' '.join('(' + wpos[i] + ')' for i in muts)} {' '.join(f'l{i}x' for i in muts)} ({carry}))" + ")" * closes)
+    A(f"        keep ! ({lst([str(C.pos(l)) for l in xitems])}) $ by ! ({' '.join(['exits r w'] + ['(' + wpos[i] + ')' for i in muts] + [f'l{i}x' for i in muts])} ({carry}))" + ")" * closes)
     A("")
     A("""module _ {M : Type 1} (𝓤 : URA M) (H : Heap 𝓤) (A : Atoms 𝓤) (W : Given 𝓤 H A) (mem : Memory → SProp 𝓤) (run : Routine → Fun 𝓤) (𝓣 : Tables 𝓤 H) (known-c : Triple 𝓤 (𝓣 .C #c) (Columns 𝓤 H A mem run)) (known-g : Triple 𝓤 (𝓣 .C #g) (Core 𝓤 H A mem run)) where""")
     pa = " ".join([f"(κs{proj(j)})" for j in range(L)] + [f"(qs{proj(j)})" for j in range(L)] + [f"(a{proj(i)})" for i in range(k)])
@@ -339,7 +354,8 @@ use denote.Exit.{yes}""")
     A(f"  {nm}-meets : Meets 𝓤 H A f.signature (WpFn 𝓤 H (𝓣 .C) (𝓣 .Λ) code.function) (f.spec 𝓤 H A mem run)\n  {nm}-meets =\n      walk-meets 𝓤 H A f.ended stayed W {tup(go)}\n      (f.clauses 𝓤 H A mem run) (WpFn 𝓤 H (𝓣 .C) (𝓣 .Λ) code.function) (WpFn-mono 𝓤 H (W .laws) 𝓣 code.function) {nm}-walks\n")
     key = lambda path: "·".join([hm] + [x.replace("_", "-") for x in path])
     A(f"pub {nm}-spec : {{M : Type 1}} → stated.statement M\nunfolding code.routine tablesOf\n{nm}-spec 𝓤 H 𝓜 𝓖 𝓡 =\n    entered 𝓤 H (tripleOf 𝓤 H (𝓖 .A) f.signature (f.spec 𝓤 H (𝓖 .A) (𝓜 .mem) (𝓡 .run)))\n    (tables 𝓤 H 𝓜 𝓡 code.env .C) (tables 𝓤 H 𝓜 𝓡 code.env .Λ) #f code.function (code.unfolded 𝓤 H 𝓜 𝓡)\n    ({nm}-meets 𝓤 H (𝓖 .A) (givenOf 𝓤 H 𝓜 𝓖) (𝓜 .mem) (𝓡 .run) (tablesOf 𝓤 H 𝓜 (tables 𝓤 H 𝓜 𝓡 code.env))\n    (cited 𝓤 H (Columns 𝓤 H (𝓖 .A) (𝓜 .mem) (𝓡 .run)) 𝓜 𝓡 code.env #c c-def.routine code.calls-records·columns (c-thm.met 𝓤 H 𝓜 𝓖 𝓡))\n    (cited 𝓤 H (Core 𝓤 H (𝓖 .A) (𝓜 .mem) (𝓡 .run)) 𝓜 𝓡 code.env #g g-def.routine code.calls-{key(cfg['core'])} (g-thm.met 𝓤 H 𝓜 𝓖 𝓡)))")
-    return "\n".join(o) + "\n"
+    body = "\n".join(o) + "\n"
+    return body.replace("{head}", trimmed(head, body), 1)
 
 if __name__ == "__main__":
     cfg = json.load(open(sys.argv[1])); open(sys.argv[2], "w").write(gen(cfg))

@@ -112,6 +112,283 @@ static void months(void)
     check(sums.number == 21 && memcmp(&sums.month, &strange, sizeof strange) == 0, "balance of a blank month");
 }
 
+/* The lists of document 01's example month: three plants, one period. Each list that a call writes has one figure more
+ * behind it, which must stay. */
+#define ROWS 3
+
+typedef struct {
+    iolwarch_plant plants[ROWS];
+    uint64_t profile[1];
+    uint64_t metered[ROWS];
+    uint64_t allotment[4 * ROWS + 1];
+    uint64_t allotted[4 * ROWS + 1];
+    int64_t accounts[2 * ROWS + 1];
+} lists;
+
+static lists example(void)
+{
+    lists l = {{{1, 10, 100, 1000000, 1000000}, {1, 11, 50, 1000000, 1000000}, {2, 20, 60, 1000000, 1000000}},
+               {180},
+               {130, 20, 30},
+               {0},
+               {0},
+               {0}};
+    size_t i;
+    for (i = 0; i <= 4 * ROWS; i++) {
+        l.allotment[i] = 900 + i;
+        l.allotted[i] = 700 + i;
+    }
+    for (i = 0; i <= 2 * ROWS; i++) {
+        l.accounts[i] = -(int64_t)(500 + i);
+    }
+    return l;
+}
+
+static iolwarch_end open_rows(lists *l, iolwarch_month month, size_t rows)
+{
+    return iolwarch_open(month, l->plants, rows, l->profile, 1, 1300, l->allotted, 4 * ROWS, l->accounts, 2 * ROWS);
+}
+
+static iolwarch_settled settle(lists *l, iolwarch_month month)
+{
+    return iolwarch_settle(month, l->plants, ROWS, l->profile, 1, l->metered, ROWS, l->allotment, 4 * ROWS,
+                           l->allotted, 4 * ROWS, l->accounts, 2 * ROWS);
+}
+
+static int same_month(iolwarch_month a, iolwarch_month b)
+{
+    return memcmp(&a, &b, sizeof a) == 0;
+}
+
+/* What a refused settle answers beside its number: the month as it came, and zeros. */
+static int unsettled(iolwarch_settled answer, iolwarch_month month)
+{
+    const iolwarch_table none = {{{0}}};
+    return same_month(answer.month, month) && answer.secondary == 0 && answer.guarantees == 0 &&
+           memcmp(&answer.cover_table, &none, sizeof none) == 0 &&
+           memcmp(&answer.secondary_table, &none, sizeof none) == 0;
+}
+
+/* Open and settle refused: the number, the month as it came, and every list as it was. */
+static void refusals(void)
+{
+    const iolwarch_month blank = {0, 0, 0, 0, 0};
+    const iolwarch_month open = {1, ROWS, 1, 1300, 1};
+    const iolwarch_month strange = {7, 8, 9, 10, 11};
+    const iolwarch_month settled = {1, ROWS, 1, 1300, 2};
+    lists l = example();
+    lists before = l;
+    iolwarch_end end;
+    iolwarch_settled answer;
+    end = open_rows(&l, open, ROWS);
+    check(end.number == 1 && same_month(end.month, open), "open of an open month");
+    end = open_rows(&l, strange, 0);
+    check(end.number == 2 && same_month(end.month, strange), "open without plants, of a month in no stage");
+    end = open_rows(&l, blank, ROWS - 1);
+    check(end.number == 11 && same_month(end.month, blank), "open with a ledger too long");
+    answer = settle(&l, blank);
+    check(answer.number == 12 && unsettled(answer, blank), "settle of a blank month");
+    answer = settle(&l, strange);
+    check(answer.number == 12 && unsettled(answer, strange), "settle of a month in no stage");
+    answer = settle(&l, settled);
+    check(answer.number == 14 && unsettled(answer, settled), "settle with no period due");
+    check(memcmp(&l, &before, sizeof l) == 0, "refused: every list as it was");
+    l.metered[0]++;
+    before = l;
+    answer = settle(&l, open);
+    check(answer.number == 17 && unsettled(answer, open), "settle of a kWh too many");
+    check(memcmp(&l, &before, sizeof l) == 0, "17: every list as it was");
+    l.metered[0]--;
+    l.allotted[0] = UINT64_C(1488000000001);
+    before = l;
+    answer = settle(&l, open);
+    check(answer.number == 19 && unsettled(answer, open), "settle over a ledger figure past its bound");
+    check(memcmp(&l, &before, sizeof l) == 0, "19: every list as it was");
+}
+
+/* Each field of a plant record in its own place. Of 11 kWh, 970,000 and 900,000 millionths leave 10 and then 9; in the
+ * other order 9 and then 8. */
+static void plant_fields(void)
+{
+    iolwarch_plant plant = {3, 999999, 11, 970000, 900000};
+    const iolwarch_month blank = {0, 0, 0, 0, 0};
+    const uint64_t profile[1] = {20};
+    const uint64_t wanted[4] = {0, 0, 20, 0};
+    uint64_t allotment[4] = {0, 0, 0, 0};
+    uint64_t allotted[4] = {1, 1, 1, 1};
+    int64_t accounts[2] = {1, 1};
+    iolwarch_end end = iolwarch_open(blank, &plant, 1, profile, 1, 7, allotted, 4, accounts, 2);
+    iolwarch_settled answer =
+        iolwarch_settle(end.month, &plant, 1, profile, 1, profile, 1, allotment, 4, allotted, 4, accounts, 2);
+    check(end.number == 0 && answer.number == 0, "one plant");
+    check(answer.guarantees == 9 && answer.secondary == 11, "loss before availability");
+    check(memcmp(allotment, wanted, sizeof wanted) == 0, "all in submarket 3");
+    plant.submarket = 5;
+    check(iolwarch_open(blank, &plant, 1, profile, 1, 7, allotted, 4, accounts, 2).number == 5, "submarket");
+    plant.submarket = 4;
+    plant.number = 1000000;
+    check(iolwarch_open(blank, &plant, 1, profile, 1, 7, allotted, 4, accounts, 2).number == 6, "number");
+    plant.number = 1;
+    plant.guarantee = UINT64_C(1000000000001);
+    check(iolwarch_open(blank, &plant, 1, profile, 1, 7, allotted, 4, accounts, 2).number == 7, "guarantee");
+    plant.guarantee = 0;
+    plant.loss = 1000001;
+    check(iolwarch_open(blank, &plant, 1, profile, 1, 7, allotted, 4, accounts, 2).number == 8, "loss");
+    plant.loss = 0;
+    plant.availability = 1000001;
+    check(iolwarch_open(blank, &plant, 1, profile, 1, 7, allotted, 4, accounts, 2).number == 8, "availability");
+}
+
+/* m1, the example file: opened, settled, balanced, closed; then m2, opened over the closed month and settled. */
+static void example_month(void)
+{
+    const uint64_t m1[4 * ROWS + 1] = {85, 0, 0, 0, 43, 0, 0, 0, 22, 30, 0, 0, 712};
+    const int64_t accounts1[2 * ROWS + 1] = {45, 58500, -23, -29900, -22, -28600, -506};
+    const uint64_t m2[4 * ROWS + 1] = {114, 0, 0, 0, 57, 0, 0, 0, 29, 40, 0, 0, 912};
+    const int64_t accounts2[2 * ROWS + 1] = {86, 111800, -57, -74100, -29, -37700, -506};
+    const uint64_t columns[4] = {150, 30, 0, 0};
+    const iolwarch_table none = {{{0}}};
+    iolwarch_table sent = none;
+    lists l = example();
+    size_t i;
+    iolwarch_end end = open_rows(&l, (iolwarch_month){0, 0, 0, 0, 0}, ROWS);
+    iolwarch_settled answer;
+    iolwarch_sums sums;
+    check(end.number == 0 && same_month(end.month, (iolwarch_month){1, ROWS, 1, 1300, 1}), "m1 opened");
+    for (i = 0; i < 4 * ROWS; i++) {
+        check(l.allotted[i] == 0, "m1 opened: no kWh allotted");
+    }
+    for (i = 0; i < 2 * ROWS; i++) {
+        check(l.accounts[i] == 0, "m1 opened: no net, no money");
+    }
+    check(l.allotted[4 * ROWS] == 712 && l.accounts[2 * ROWS] == -506, "m1 opened: behind the lists");
+
+    answer = settle(&l, end.month);
+    check(answer.number == 0 && same_month(answer.month, (iolwarch_month){1, ROWS, 1, 1300, 2}), "m1 settled");
+    check(answer.secondary == 0 && answer.guarantees == 210, "m1: Z and A");
+    sent.rows[0][1] = 22;
+    check(memcmp(&answer.cover_table, &sent, sizeof sent) == 0, "m1: submarket 1 gives 22 to 2 as cover");
+    check(memcmp(&answer.secondary_table, &none, sizeof none) == 0, "m1: nothing secondary is given");
+    check(memcmp(l.allotment, m1, 4 * ROWS * sizeof m1[0]) == 0 && l.allotment[4 * ROWS] == 912, "m1: allotment");
+    check(memcmp(l.allotted, m1, sizeof m1) == 0, "m1: ledger");
+    check(memcmp(l.accounts, accounts1, sizeof accounts1) == 0, "m1: nets and money");
+
+    sums = iolwarch_balance(answer.month, l.allotted, 4 * ROWS, l.accounts, 2 * ROWS);
+    check(sums.number == 0 && same_month(sums.month, answer.month), "m1 balanced");
+    check(memcmp(sums.columns, columns, sizeof columns) == 0 && sums.net == 0 && sums.money == 0, "m1: sums");
+    end = iolwarch_close(sums.month);
+    check(end.number == 0 && same_month(end.month, (iolwarch_month){2, ROWS, 1, 1300, 2}), "m1 closed");
+
+    l.profile[0] = 240;
+    l.metered[0] = 200;
+    l.metered[1] = 0;
+    l.metered[2] = 40;
+    end = open_rows(&l, end.month, ROWS);
+    check(end.number == 0 && same_month(end.month, (iolwarch_month){1, ROWS, 1, 1300, 1}), "m2 opened over m1");
+    answer = settle(&l, end.month);
+    check(answer.number == 0 && answer.secondary == 30 && answer.guarantees == 210, "m2: Z and A");
+    sent.rows[0][1] = 20;
+    check(memcmp(&answer.cover_table, &sent, sizeof sent) == 0, "m2: submarket 1 gives 20 to 2 as cover");
+    sent.rows[0][1] = 9;
+    check(memcmp(&answer.secondary_table, &sent, sizeof sent) == 0, "m2: and 9 of the secondary");
+    check(memcmp(l.allotment, m2, sizeof m2) == 0, "m2: allotment");
+    check(memcmp(l.allotted, m2, 4 * ROWS * sizeof m2[0]) == 0 && l.allotted[4 * ROWS] == 712, "m2: ledger");
+    check(memcmp(l.accounts, accounts2, sizeof accounts2) == 0, "m2: nets and money");
+}
+
+/* The bytes that a statement of three plants asks for. One more lies behind them, which must stay. */
+#define ROOM (128 * ROWS + 128)
+#define MANY 513
+
+static iolwarch_stated state(const lists *l, iolwarch_month month, size_t rows, uint8_t *bytes, size_t room)
+{
+    return iolwarch_statement(month, l->plants, rows, l->allotted, 4 * ROWS, l->accounts, 2 * ROWS, bytes, room);
+}
+
+static iolwarch_sized size_of(const lists *l, iolwarch_month month, size_t rows)
+{
+    return iolwarch_statement_size(month, l->plants, rows, l->allotted, 4 * ROWS, l->accounts, 2 * ROWS);
+}
+
+/* A statement that is written: its bytes at the front, and those behind it as they were; its size in the range. */
+static void written(const char *what, const lists *l, iolwarch_month month, const char *text)
+{
+    const size_t length = strlen(text);
+    const lists before = *l;
+    uint8_t bytes[ROOM + 1];
+    uint8_t wanted[ROOM + 1];
+    iolwarch_sized sized = size_of(l, month, ROWS);
+    iolwarch_stated stated;
+    memset(bytes, 'x', sizeof bytes);
+    memset(wanted, 'x', sizeof wanted);
+    memcpy(wanted, text, length);
+    stated = state(l, month, ROWS, bytes, ROOM);
+    check(stated.number == 0 && stated.length == length && same_month(stated.month, month), what);
+    check(memcmp(bytes, wanted, sizeof bytes) == 0, what);
+    check(sized.number == 0 && same_month(sized.month, month), what);
+    check(length <= sized.size && sized.size <= ROOM, what);
+    check(memcmp(l, &before, sizeof before) == 0, what);
+}
+
+/* Statement and size refused: the number, the month as it came, zeros, and bytes and lists as they were. */
+static void unstated(const char *what, const lists *l, iolwarch_month month, size_t rows, uint64_t number)
+{
+    const lists before = *l;
+    uint8_t bytes[ROOM + 1];
+    uint8_t wanted[ROOM + 1];
+    iolwarch_sized sized = size_of(l, month, rows);
+    iolwarch_stated stated;
+    memset(bytes, 'x', sizeof bytes);
+    memset(wanted, 'x', sizeof wanted);
+    stated = state(l, month, rows, bytes, ROOM);
+    check(stated.number == number && stated.length == 0 && same_month(stated.month, month), what);
+    check(sized.number == number && sized.size == 0 && same_month(sized.month, month), what);
+    check(memcmp(bytes, wanted, sizeof bytes) == 0 && memcmp(l, &before, sizeof before) == 0, what);
+}
+
+/* The example month's statement: opened, settled and closed; a byte too few; and refused, whatever is asked first. */
+static void statements(void)
+{
+    static const char text[] = "A,1,10,85,0,0,0,45,58500\n"
+                               "A,1,11,43,0,0,0,-23,-29900\n"
+                               "A,2,20,22,30,0,0,-22,-28600\n"
+                               "T,1,3,150,30,0,0,180\n";
+    static iolwarch_plant many[MANY];
+    lists l = example();
+    iolwarch_month month = open_rows(&l, (iolwarch_month){0, 0, 0, 0, 0}, ROWS).month;
+    uint8_t bytes[ROOM];
+    uint8_t wanted[ROOM];
+    iolwarch_stated stated;
+    written("no period settled", &l, month,
+            "A,1,10,0,0,0,0,0,0\nA,1,11,0,0,0,0,0,0\nA,2,20,0,0,0,0,0,0\nT,0,3,0,0,0,0,0\n");
+    month = settle(&l, month).month;
+    written("statement before close", &l, month, text);
+    month = iolwarch_close(month).month;
+    written("statement after close", &l, month, text);
+
+    memset(bytes, 'x', sizeof bytes);
+    memset(wanted, 'x', sizeof wanted);
+    stated = state(&l, month, ROWS, bytes, ROOM - 1);
+    check(stated.number == 22 && stated.length == 0 && same_month(stated.month, month), "a byte too few");
+    check(memcmp(bytes, wanted, sizeof bytes) == 0, "22: nothing written");
+    stated = iolwarch_statement(month, many, MANY, l.allotted, 4 * ROWS, l.accounts, 2 * ROWS, bytes, ROOM);
+    check(stated.number == 13 && stated.length == 0 && same_month(stated.month, month), "513 plants");
+    check(memcmp(bytes, wanted, sizeof bytes) == 0, "513 plants: nothing written");
+
+    unstated("statement of a blank month", &l, (iolwarch_month){0, ROWS, 1, 1300, 2}, ROWS, 21);
+    unstated("statement of a month in no stage", &l, (iolwarch_month){7, ROWS, 1, 1300, 2}, ROWS, 21);
+    unstated("statement of no plants", &l, (iolwarch_month){2, 0, 1, 1300, 2}, 0, 2);
+    unstated("statement of 745 periods", &l, (iolwarch_month){2, ROWS, 745, 1300, 2}, ROWS, 3);
+    unstated("statement with a plant too few", &l, month, ROWS - 1, 13);
+    unstated("statement with period 0 due", &l, (iolwarch_month){2, ROWS, 1, 1300, 0}, ROWS, 14);
+    unstated("statement with period H + 2 due", &l, (iolwarch_month){2, ROWS, 1, 1300, 3}, ROWS, 14);
+    unstated("statement with a ledger too long", &l, (iolwarch_month){2, ROWS - 1, 1, 1300, 2}, ROWS - 1, 11);
+    l.allotted[0] = UINT64_C(1488000000001);
+    unstated("statement of a ledger figure past its bound", &l, month, ROWS, 19);
+    l.plants[2].loss = 1000001;
+    unstated("statement with a loss factor past its limit", &l, month, ROWS, 8);
+}
+
 /* Reading a line, and a field by its place. */
 static void lines(void)
 {
@@ -135,6 +412,10 @@ int main(void)
     sharing();
     transfers();
     months();
+    refusals();
+    plant_fields();
+    example_month();
+    statements();
     lines();
     printf("%lu passed, %lu failed\n", passed, failed);
     return failed == 0 && passed > 0 ? 0 : 1;

@@ -20,7 +20,15 @@ impl<T: Copy + PartialEq> Lent<T> {
 
     /// The list as it is now, and whether what stands around it stayed.
     pub fn back(mut self) -> (Vec<T>, bool) {
+        // Read again from memory: the compiler may believe that a call does not write to a list lent for reading.
+        std::hint::black_box(&mut self.all);
         let kept = self.all.first() == Some(&self.around) && self.all.last() == Some(&self.around);
         (self.list().to_vec(), kept)
+    }
+
+    /// For a list that a call only reads: whether it, and what stands around it, is as it was.
+    pub fn untouched(self, before: &[T]) -> bool {
+        let (list, kept) = self.back();
+        kept && list == before
     }
 }

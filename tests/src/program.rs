@@ -12,14 +12,19 @@ pub fn generated(seed: u64, kind: &str) -> Vec<u8> {
     run(&["gen", &seed.to_string(), kind], b"")
 }
 
-/// The kinds of generated input.
-pub fn kinds() -> Vec<String> {
-    text(run(&["kinds"], b"")).lines().map(str::to_string).collect()
+/// The kinds of generated input whose names begin so.
+pub fn kinds(beginning: &str) -> Vec<String> {
+    text(run(&["kinds"], b"")).lines().filter(|kind| kind.starts_with(beginning)).map(str::to_string).collect()
 }
 
 /// What a script of calls prints. A size is printed with the limit and with the bytes that the statement writes.
 pub fn calls(script: &[u8]) -> String {
     text(run(&["calls", "--range"], script))
+}
+
+/// The statement of a month file, or its refusal.
+pub fn month(file: &[u8]) -> String {
+    text(run(&["month"], file))
 }
 
 fn text(bytes: Vec<u8>) -> String {
@@ -43,6 +48,6 @@ fn run(words: &[&str], input: &[u8]) -> Vec<u8> {
     let output = child.wait_with_output().expect("the second program's output");
     let written = writer.join().expect("the writing thread");
     assert!(output.status.success(), "second {}: {}", words.join(" "), output.status);
-    assert!(written.is_ok() || words[0] != "calls", "second {} did not read its input", words.join(" "));
+    assert!(written.is_ok() || words[0] == "gen", "second {} did not read its input", words.join(" "));
     output.stdout
 }

@@ -1,20 +1,31 @@
 //! Scripts of calls, as the second program generates them (kinds calls-*; the language is described at the head of
 //! second/script.rs). Each script is run here over the recorder and there by the second program, and what the two
-//! print is compared line by line: every answer, every list shown, and the month and ledger at the end.
+//! print is compared line by line: every answer, after each call the month and every list that it could write, and the
+//! month and ledger at the end. What stands around a list, and a list that a call only reads, must stay.
 
 use crate::count::Count;
-use crate::recorder;
+use crate::lent::Lent;
+use crate::program;
+use crate::recorder::{self, Month, Plant};
 use std::collections::BTreeMap;
 use std::fmt::Write as _;
-use std::io::Write as _;
-use std::path::PathBuf;
-use std::process::{Command, Stdio};
 
-/// Document 01 alone is stage 0; stage N has the requests E1 to EN in force.
-const STAGE: &str = "0";
+/// The kinds of scripts without a month, with how many seeds of each are run. Those with a month are run in `month`.
+pub const KINDS: [(&str, u64); 3] = [("calls-share", 500), ("calls-transfer", 500), ("calls-lines", 2_000)];
 
-/// The kinds whose calls all stand, with how many seeds of each are run.
-const KINDS: [(&str, u64); 2] = [("calls-share", 200), ("calls-transfer", 200)];
+/// The calls, each with what is shown after it.
+const CALLS: [(&str, &[&str]); 10] = [
+    ("open", &["month", "kwh", "signed"]),
+    ("settle", &["month", "kwh", "signed", "allot"]),
+    ("balance", &["month", "kwh", "signed"]),
+    ("close", &["month", "kwh", "signed"]),
+    ("statement", &["month", "kwh", "signed", "bytes"]),
+    ("size", &["month", "kwh", "signed"]),
+    ("share", &["parts"]),
+    ("transfer", &[]),
+    ("read", &["figures"]),
+    ("field", &[]),
+];
 
 const UNSIGNED: [&str; 14] = [
     "plants", "profile", "levels", "metered", "allot", "kwh", "bytes", "line", "figures", "weights", "parts", "table",
@@ -22,59 +33,81 @@ const UNSIGNED: [&str; 14] = [
 ];
 const SIGNED: [&str; 2] = ["signed", "totals"];
 
+/// What stands around a list that is lent: a digit where the list is of bytes.
+const AROUND: u64 = 0xA5A5_A5A5_A5A5_A5A5;
+const SIGNED_AROUND: i64 = -0x5A5A_5A5A_5A5A_5A5A;
+const PLANT: Plant = Plant { submarket: AROUND, number: AROUND, guarantee: AROUND, loss: AROUND, availability: AROUND };
+const DIGIT: u8 = b'7';
+
 pub fn run(count: &mut Count) {
-    for (kind, seeds) in KINDS {
-        for seed in 1..=seeds {
-            let script = second(&["gen", &seed.to_string(), kind, "--stage", STAGE], b"");
-            let theirs = second(&["calls", "--stage", STAGE], &script);
-            let theirs = String::from_utf8(theirs).expect("the second program answers in plain text");
-            match Bench::new().play(&script) {
-                Ok(ours) => compare(count, kind, seed, &ours, &theirs),
-                Err(why) => count.case(false, || format!("{} seed {}: {}", kind, seed, why)),
-            }
-            count.tried(format!("scripts of {}", kind));
-        }
+    for (name, seeds) in KINDS {
+        kind(count, name, seeds);
     }
 }
 
-/// A line that both print alike is a case; so is a script whose outputs are alike to the end.
+/// Runs the scripts of one kind.
+pub fn kind(count: &mut Count, kind: &str, seeds: u64) {
+    for seed in 1..=seeds {
+        let script = watched(&program::generated(seed, kind));
+        let theirs = program::calls(&script);
+        match Bench::new().play(&script) {
+            Ok(ours) => compare(count, kind, seed, &ours, &theirs),
+            Err(why) => count.case(false, || format!("{} seed {}: {}", kind, seed, why)),
+        }
+        count.tried(format!("scripts of {}", kind));
+    }
+}
+
+/// The call that a line of a script, or of what it prints, begins with.
+fn call_of(line: &[u8]) -> Option<(&'static str, &'static [&'static str])> {
+    let word = line.split(|&b| b == b' ').next()?;
+    CALLS.iter().copied().find(|(call, _)| call.as_bytes() == word)
+}
+
+/// The script, with what each call could write shown after it.
+fn watched(script: &[u8]) -> Vec<u8> {
+    let mut out = Vec::new();
+    for line in script.split_inclusive(|&b| b == b'\n') {
+        out.extend_from_slice(line);
+        let (_, lists) = call_of(line.strip_suffix(b"\n").unwrap_or(line)).unwrap_or(("", &[]));
+        for list in lists {
+            out.extend_from_slice(format!("show {}\n", list).as_bytes());
+        }
+    }
+    out
+}
+
+/// A line that both print alike is a case; so is a script whose outputs are as long.
 fn compare(count: &mut Count, kind: &str, seed: u64, ours: &str, theirs: &str) {
     for (at, (our, their)) in ours.lines().zip(theirs.lines()).enumerate() {
-        count.case(our == their, || format!("{} seed {}, line {}: {}, wanted {}", kind, seed, at + 1, our, their));
-        let mut words = our.split(' ');
-        if let (Some(call), Some(number)) = (words.next(), words.next()) {
-            if !UNSIGNED.contains(&call) && !SIGNED.contains(&call) && call != "month" {
-                count.tried(format!("{} answered {}", call, number));
-            }
+        count.case(alike(our, their), || format!("{} seed {}, line {}: {}, wanted {}", kind, seed, at + 1, our, their));
+        if let Some((call, _)) = call_of(our.as_bytes()) {
+            let number = our.split(' ').nth(1).and_then(|word| word.parse().ok());
+            count.called(call, number.expect("an answer begins with its number"));
         }
     }
-    count.case(ours == theirs, || format!("{} seed {}: the outputs differ in length", kind, seed));
+    let as_long = ours.lines().count() == theirs.lines().count();
+    count.case(as_long, || format!("{} seed {}: the outputs differ in length", kind, seed));
 }
 
-/// Runs the second program, which stands beside this one, on an input.
-fn second(words: &[&str], input: &[u8]) -> Vec<u8> {
-    let mut program: PathBuf = std::env::current_exe().expect("this program has a path");
-    program.set_file_name("second");
-    let mut child = Command::new(&program)
-        .args(words)
-        .stdin(Stdio::piped())
-        .stdout(Stdio::piped())
-        .spawn()
-        .unwrap_or_else(|why| panic!("{}: {}", program.display(), why));
-    let mut stdin = child.stdin.take().expect("standard input is piped");
-    let input = input.to_vec();
-    // Written beside the reading: either side may fill its pipe.
-    let writer = std::thread::spawn(move || stdin.write_all(&input));
-    let output = child.wait_with_output().expect("the second program's output");
-    let written = writer.join().expect("the writing thread");
-    assert!(output.status.success(), "second {}: {}", words.join(" "), output.status);
-    assert!(written.is_ok() || words[0] == "gen", "second {} did not read its input", words.join(" "));
-    output.stdout
+/// Equal, but for a size: 01 leaves its answer free between the bytes that the statement writes and 128P + 128, which
+/// the second program prints last and before it.
+fn alike(our: &str, their: &str) -> bool {
+    let figures = |line: &str| line.split(' ').skip(1).map(|word| word.parse().ok()).collect::<Option<Vec<u64>>>();
+    if !our.starts_with("size ") {
+        return our == their;
+    }
+    match (figures(our).as_deref(), figures(their).as_deref()) {
+        (Some([number, size]), Some([wanted, limit, written])) => {
+            number == wanted && written <= size && size <= limit && their.starts_with("size ")
+        }
+        _ => false,
+    }
 }
 
-/// Everything that a script can name. The month is blank until a `month` line; no call of KINDS takes it yet.
+/// Everything that a script can name. The month is blank until a `month` line.
 struct Bench {
-    month: [u64; 5],
+    month: Month,
     unsigned: BTreeMap<&'static str, Vec<u64>>,
     signed: BTreeMap<&'static str, Vec<i64>>,
     expected: Option<u64>,
@@ -84,7 +117,7 @@ struct Bench {
 impl Bench {
     fn new() -> Bench {
         Bench {
-            month: [0; 5],
+            month: Month { stage: 0, plants: 0, periods: 0, tariff: 0, due: 0 },
             unsigned: UNSIGNED.iter().map(|&name| (name, Vec::new())).collect(),
             signed: SIGNED.iter().map(|&name| (name, Vec::new())).collect(),
             expected: None,
@@ -128,7 +161,13 @@ impl Bench {
             }
             ["show", name] => self.show(name),
             ["month", stage, plants, periods, tariff, due, _edition, _first] => {
-                self.month = [figure(stage)?, figure(plants)?, figure(periods)?, figure(tariff)?, figure(due)?];
+                self.month = Month {
+                    stage: figure(stage)?,
+                    plants: figure(plants)?,
+                    periods: figure(periods)?,
+                    tariff: figure(tariff)?,
+                    due: figure(due)?,
+                };
                 Ok(())
             }
             [name, ref rest @ ..] if UNSIGNED.contains(&name) || SIGNED.contains(&name) => self.put(name, rest, true),
@@ -168,7 +207,8 @@ impl Bench {
     }
 
     fn show_month(&mut self) {
-        let _ = writeln!(self.out, "month{}", words_of(&self.month));
+        let Month { stage, plants, periods, tariff, due } = self.month;
+        let _ = writeln!(self.out, "month{}", words_of(&[stage, plants, periods, tariff, due]));
     }
 
     fn show_state(&mut self) {
@@ -177,7 +217,47 @@ impl Bench {
         self.show("signed").expect("the ledger has a list signed");
     }
 
+    /// Seven words a record; owner and capacity come with E3.
+    fn plants(&self) -> Vec<Plant> {
+        let record =
+            |w: &[u64]| Plant { submarket: w[0], number: w[1], guarantee: w[2], loss: w[3], availability: w[4] };
+        self.unsigned["plants"].chunks_exact(7).map(record).collect()
+    }
+
+    fn bytes(&self, name: &str) -> Result<Vec<u8>, String> {
+        self.unsigned[name].iter().map(|&b| u8::try_from(b).map_err(|_| "not a byte".to_string())).collect()
+    }
+
     // ---- calls
+
+    fn lend(&self, name: &str) -> Lent<u64> {
+        Lent::new(&self.unsigned[name], AROUND)
+    }
+
+    /// Takes back a list that the call only reads.
+    fn read(&self, name: &str, list: Lent<u64>) -> Result<(), String> {
+        stayed(list.untouched(&self.unsigned[name]), name)
+    }
+
+    /// Takes back a list that the call may have written.
+    fn written(&mut self, name: &'static str, list: Lent<u64>) -> Result<(), String> {
+        let (list, kept) = list.back();
+        self.unsigned.insert(name, list);
+        stayed(kept, name)
+    }
+
+    fn lend_accounts(&self) -> Lent<i64> {
+        Lent::new(&self.signed["signed"], SIGNED_AROUND)
+    }
+
+    /// Takes back what open or settle left.
+    fn keep(&mut self, month: Month, allotted: Lent<u64>, accounts: Lent<i64>) -> Result<(), String> {
+        let (list, kept) = accounts.back();
+        self.month = month;
+        self.signed.insert("signed", list);
+        self.written("kwh", allotted)?;
+        stayed(kept, "signed")
+    }
 
     /// Prints an answer, and holds its number to what the script expects.
     fn answer(&mut self, call: &str, number: u64, rest: &str) -> Result<(), String> {
@@ -190,10 +270,21 @@ impl Bench {
 
     fn call(&mut self, call: &str, words: &[&str]) -> Result<(), String> {
         match (call, words) {
+            ("open", [tariff, "1", _first]) => self.open(figure(tariff)?),
+            ("settle", []) => self.settle(),
+            ("balance", []) => self.balance(),
+            ("close", []) => {
+                let end = recorder::close(self.month);
+                self.month = end.month;
+                self.answer(call, end.number, "")
+            }
+            ("statement", []) => self.statement(),
+            ("size", []) => self.size(),
             ("share", [total, "1"]) => {
-                let mut parts = self.unsigned["parts"].clone();
-                let number = recorder::share(figure(total)?, &self.unsigned["weights"], &mut parts);
-                self.unsigned.insert("parts", parts);
+                let (mut weights, mut parts) = (self.lend("weights"), self.lend("parts"));
+                let number = recorder::share(figure(total)?, weights.list(), parts.list());
+                self.read("weights", weights)?;
+                self.written("parts", parts)?;
                 self.answer(call, number, "")
             }
             ("transfer", [l1, l2, l3, l4, n1, n2, n3, n4, "1"]) => {
@@ -202,8 +293,110 @@ impl Bench {
                 let answer = recorder::transfer(left, need);
                 self.answer(call, answer.number, &words_of(&answer.table.rows.concat()))
             }
+            ("read", []) => self.read_line(),
+            ("field", [index]) => self.field(figure(index)?),
             _ => Err(format!("no such call: {} with {} words", call, words.len())),
         }
+    }
+
+    fn open(&mut self, tariff: u64) -> Result<(), String> {
+        let table = self.plants();
+        let (mut plants, mut profile) = (Lent::new(&table, PLANT), self.lend("profile"));
+        let (mut allotted, mut accounts) = (self.lend("kwh"), self.lend_accounts());
+        let end = recorder::open(self.month, plants.list(), profile.list(), tariff, allotted.list(), accounts.list());
+        stayed(plants.untouched(&table), "plants")?;
+        self.read("profile", profile)?;
+        self.keep(end.month, allotted, accounts)?;
+        self.answer("open", end.number, "")
+    }
+
+    fn settle(&mut self) -> Result<(), String> {
+        let table = self.plants();
+        let (mut plants, mut profile, mut metered) =
+            (Lent::new(&table, PLANT), self.lend("profile"), self.lend("metered"));
+        let (mut allotment, mut allotted, mut accounts) = (self.lend("allot"), self.lend("kwh"), self.lend_accounts());
+        let hour = recorder::settle(
+            self.month,
+            plants.list(),
+            profile.list(),
+            metered.list(),
+            allotment.list(),
+            allotted.list(),
+            accounts.list(),
+        );
+        stayed(plants.untouched(&table), "plants")?;
+        self.read("profile", profile)?;
+        self.read("metered", metered)?;
+        self.written("allot", allotment)?;
+        self.keep(hour.month, allotted, accounts)?;
+        let mut rest = words_of(&[hour.secondary, hour.guarantees]);
+        rest += &words_of(&hour.cover_table.rows.concat());
+        rest += &words_of(&hour.secondary_table.rows.concat());
+        self.answer("settle", hour.number, &rest)
+    }
+
+    fn balance(&mut self) -> Result<(), String> {
+        let (mut allotted, mut accounts) = (self.lend("kwh"), self.lend_accounts());
+        let sums = recorder::balance(self.month, allotted.list(), accounts.list());
+        self.read("kwh", allotted)?;
+        stayed(accounts.untouched(&self.signed["signed"]), "signed")?;
+        self.month = sums.month;
+        self.answer("balance", sums.number, &(words_of(&sums.columns) + &words_of(&[sums.net, sums.money])))
+    }
+
+    fn statement(&mut self) -> Result<(), String> {
+        let table = self.plants();
+        let mut plants = Lent::new(&table, PLANT);
+        let (mut allotted, mut accounts) = (self.lend("kwh"), self.lend_accounts());
+        let mut bytes = Lent::new(&self.bytes("bytes")?, DIGIT);
+        let stated = recorder::statement(self.month, plants.list(), allotted.list(), accounts.list(), bytes.list());
+        stayed(plants.untouched(&table), "plants")?;
+        self.read("kwh", allotted)?;
+        stayed(accounts.untouched(&self.signed["signed"]), "signed")?;
+        let (written, kept) = bytes.back();
+        self.unsigned.insert("bytes", written.iter().map(|&b| b as u64).collect());
+        stayed(kept, "bytes")?;
+        self.month = stated.month;
+        self.answer("statement", stated.number, &words_of(&[stated.length]))
+    }
+
+    fn size(&mut self) -> Result<(), String> {
+        let table = self.plants();
+        let mut plants = Lent::new(&table, PLANT);
+        let (mut allotted, mut accounts) = (self.lend("kwh"), self.lend_accounts());
+        let sized = recorder::size(self.month, plants.list(), allotted.list(), accounts.list());
+        stayed(plants.untouched(&table), "plants")?;
+        self.read("kwh", allotted)?;
+        stayed(accounts.untouched(&self.signed["signed"]), "signed")?;
+        self.month = sized.month;
+        self.answer("size", sized.number, &words_of(&[sized.size]))
+    }
+
+    fn read_line(&mut self) -> Result<(), String> {
+        let bytes = self.bytes("line")?;
+        let (mut line, mut figures) = (Lent::new(&bytes, DIGIT), self.lend("figures"));
+        let answer = recorder::read_line(line.list(), figures.list());
+        stayed(line.untouched(&bytes), "line")?;
+        self.written("figures", figures)?;
+        self.answer("read", answer.number, &words_of(&[answer.start, answer.fields]))
+    }
+
+    fn field(&mut self, index: u64) -> Result<(), String> {
+        let bytes = self.bytes("line")?;
+        let mut line = Lent::new(&bytes, DIGIT);
+        let place = recorder::field(line.list(), index);
+        stayed(line.untouched(&bytes), "line")?;
+        let part = bytes.get(place.start as usize..).and_then(|rest| rest.get(..place.length as usize));
+        let part = part.ok_or(format!("no part of the line: {:?}", place))?;
+        self.answer("field", place.number, &(words_of(&[place.length]) + &words_of(part)))
+    }
+}
+
+fn stayed(good: bool, name: &str) -> Result<(), String> {
+    if good {
+        Ok(())
+    } else {
+        Err(format!("{}: written where nothing may be written", name))
     }
 }
 
@@ -223,5 +416,9 @@ fn put<T: std::str::FromStr>(list: &mut Vec<T>, words: &[&str], anew: bool) -> R
 
 /// Each figure with a space before it.
 fn words_of<T: std::fmt::Display>(list: &[T]) -> String {
-    list.iter().map(|x| format!(" {}", x)).collect()
+    let mut words = String::new();
+    for x in list {
+        let _ = write!(words, " {}", x);
+    }
+    words
 }

@@ -2,6 +2,7 @@
 //! with its neighbours.
 
 use crate::count::Count;
+use crate::lent::Lent;
 use crate::random::Random;
 use crate::recorder;
 use second::Rule;
@@ -18,7 +19,7 @@ pub fn run(count: &mut Count) {
     generated(count);
     limits(count);
     for number in [0, 24, 25] {
-        count.reached(&format!("answered {}", number), 3_000);
+        count.answered("share", number, 3_000);
     }
 }
 
@@ -27,24 +28,20 @@ fn compare(count: &mut Count, total: u64, weights: &[u64], before: &[u64]) -> u6
     let mut theirs = before.to_vec();
     let their_number = second::share_call(Rule::RunningTotal, total, weights, &mut theirs) as u64;
 
-    let mut lent = vec![AROUND];
-    lent.extend_from_slice(before);
-    lent.push(AROUND);
-    let end = lent.len() - 1;
-    let read = weights.to_vec();
-    let number = recorder::share(total, &read, &mut lent[1..end]);
-    let ours = &lent[1..end];
+    let mut read = Lent::new(weights, AROUND);
+    let mut lent = Lent::new(before, AROUND);
+    let number = recorder::share(total, read.list(), lent.list());
+    let (ours, kept) = lent.back();
 
-    let alike = number == their_number && ours == &theirs[..];
-    let kept = read == weights && lent[0] == AROUND && lent[end] == AROUND;
-    let lawful = if number == 0 { is_lawful(total, weights, ours) } else { ours == before };
-    count.case(alike && kept && lawful, || {
+    let alike = number == their_number && ours == theirs;
+    let lawful = if number == 0 { is_lawful(total, weights, &ours) } else { ours == before };
+    count.case(alike && kept && read.untouched(weights) && lawful, || {
         format!(
             "T {} over {:?}, lent {:?}: {} {:?}, wanted {} {:?}",
             total, weights, before, number, ours, their_number, theirs
         )
     });
-    count.tried(format!("answered {}", number));
+    count.called("share", number);
     number
 }
 

@@ -19,7 +19,7 @@ pub fn run(count: &mut Count) {
     limits(count);
     worked(count);
     for number in [0, 23] {
-        count.reached(&format!("answered {}", number), 30_000);
+        count.answered("transfer", number, 30_000);
     }
 }
 
@@ -32,7 +32,7 @@ fn compare(count: &mut Count, left: Four, need: Four) -> u64 {
     count.case(ours == theirs && lawful, || {
         format!("left {:?}, need {:?}: {:?}, wanted {:?}", left, need, ours, theirs)
     });
-    count.tried(format!("answered {}", ours.number));
+    count.called("transfer", ours.number);
     ours.number
 }
 

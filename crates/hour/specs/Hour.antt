@@ -37,7 +37,7 @@ guaranteed h p = modulated h p * p .loss / 1000000 * p .availability / 1000000
 unfoldable pub guarantees : Hour → List ℕ
 guarantees h = map (guaranteed h) (h .plants)
 
--- Step 3: secondary energy Z = Gt − A, zero where Gt is below A; covered guarantees b
+-- Step 3: secondary energy Z = Gt − A, zero where Gt is below A; covered guarantees b (004's adjusted guarantee)
 unfoldable pub secondary : Hour → ℕ
 secondary h = sum (h .metered) - sum (guarantees h)
 
@@ -45,7 +45,7 @@ unfoldable pub covered : Hour → List ℕ
 covered h = cond (leb (sum (guarantees h)) (sum (h .metered))) (guarantees h) (h .rule (sum (h .metered)) (guarantees h))
 
 module _ (h : Hour) where
-  -- Step 4: surpluses U of the submarkets, deficits d of the plants, own cover
+  -- Step 4: the surpluses summed by submarket (U), the deficits d of the plants, own cover
   unfoldable pub surplus : List ℕ
   surplus = totals (submarkets h) (h .metered ⊖ covered h)
 

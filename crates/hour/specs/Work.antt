@@ -10,8 +10,8 @@ use Rattle.hour.specs.Hour.{Hour, guarantees, secondary, coverTable, sec
 use Rattle.hour.specs.Table.{Equal}
 use Rattle.hour.specs.declared.Worked.{Worked}
 
--- The columns, profile, period and metered figures are in limits, and the lent lists as long as they must be (settle's questions 2, 3, 5 to 10
--- and 13 to 18 answered yes)
+-- The columns, profile, period and metered figures are in limits, and the lent lists as long as they must be (what the hour needs of
+-- settle's questions 2, 3, 5 to 10 and 13 to 18)
 pub record Workable (ss ns gs ls vs profile : List ℕ) (k : ℕ) (metered lent : List ℕ) (lentNets : List ℤ) : Type 0 where
   pub some : 1 ≤ length ss
   pub rows : length ss ≤ 512

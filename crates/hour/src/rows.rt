@@ -28,17 +28,6 @@ fn figure_in(s: u64, t: u64, x: u64) -> u64
     if t == s { x } else { 0 }
 }
 
-fn copy_into(from: &[u64], to: &mut [u64])
-    requires { ⌜ length (now to) ≡ length (now from) ⌝ }
-    ensures { λ _. ⌜ now (to .exit) ≡ now (from .entry) ⌝ }
-{
-    let mut i: usize = 0;
-    while i < from.len() {
-        to[i] = from[i];
-        i += 1;
-    }
-}
-
 // Step 3: covered guarantees b, of the guarantees a with their sum.
 pub fn covered_into(generation: u64, whole: u64, a: &[u64], b: &mut [u64])
     requires { ⌜ (whole ≡ sum (now a)) × (sum (now a) < 2 ^ 62) ⌝ }
@@ -46,7 +35,7 @@ pub fn covered_into(generation: u64, whole: u64, a: &[u64], b: &mut [u64])
     ensures { λ _. ⌜ now (b .exit) ≡ coveredOf generation (now (a .entry)) ⌝ }
 {
     if whole <= generation {
-        copy_into(a, b);
+        lists::copy_into(a, b);
     } else {
         sharing::share_into(generation, whole, a, b);
     }
@@ -59,7 +48,7 @@ pub fn rights_into(secondary: u64, whole: u64, a: &[u64], metered: &[u64], r: &m
     ensures { λ _. ⌜ now (r .exit) ≡ rightsOf secondary (now (a .entry)) (now (metered .entry)) ⌝ }
 {
     if whole == 0 {
-        copy_into(metered, r);
+        lists::copy_into(metered, r);
     } else {
         sharing::share_into(secondary, whole, a, r);
     }

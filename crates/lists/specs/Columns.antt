@@ -51,7 +51,7 @@ within s subs xs = rowwise (inside s) 0 0 subs xs
 abbrev pub outside : ℕ → List ℕ → List ℕ → List ℕ
 outside s subs xs = rowwise (beyond s) 0 0 subs xs
 
--- one entry for each submarket 1 to 4, and the entry of submarket s
+-- one entry for each submarket 1 to 4, and the entry s of a list counted from 1 (a submarket or a period); 0 reads the first
 abbrev pub four : {A : Type 0} → (ℕ → A) → List A
 four f = f 1 ∷ f 2 ∷ f 3 ∷ f 4 ∷ []
 

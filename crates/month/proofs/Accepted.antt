@@ -18,7 +18,8 @@ use Rattle.hour.specs.Hour.{hourOf, submarkets}
 use Rattle.hour.proofs.Hour.{Sound}
 use Rattle.ledger.specs.Ledger.{Ledger}
 use Rattle.month.specs.declared.Month.{Month}
-use Rattle.month.specs.Questions.{isOpen, isBlank, placed, rowNumber, rowsNumber, tablesNumber, ownNumber, meteredNumber, settleNumber, closeNumber, balanceNumber}
+use Rattle.questions.specs.Questions.{placed, rowNumber, rowsNumber, tablesNumber}
+use Rattle.month.specs.Questions.{isOpen, isBlank, ownNumber, meteredNumber, settleNumber, closeNumber, balanceNumber}
 
 abbrev subs : List Plant → List ℕ
 subs ps = map (λ (p : Plant). p .submarket) ps

@@ -1,9 +1,7 @@
--- The ledger adds up over the hours, and demand 3; what answered questions tell; the rows' questions.
-pub mod Sums
+-- What answered questions tell; the statement within limits.
 pub mod Accepted
-pub mod Demand
 pub mod Asked
-pub mod Rows
 pub mod Ends
 pub mod Workable
 pub mod Many
+pub mod Statable

@@ -10,7 +10,8 @@ use Rattle.hour.specs.declared.Plant.{Plant}
 use Rattle.ledger.specs.Ledger.{Ledger}
 use Rattle.month.specs.declared.Month.{Month}
 use Rattle.month.specs.declared.Settled.{Settled}
-use Rattle.month.specs.Questions.{isOpen, sizesNumber, openNumber, ownNumber}
+use Rattle.questions.specs.Questions.{sizesNumber}
+use Rattle.month.specs.Questions.{isOpen, openNumber, ownNumber}
 use Rattle.month.specs.Calls.{OpenEnd, openCall}
 use Rattle.month.specs.Steps.{inputsNumber}
 use Rattle.month.proofs.Asked.{own}

@@ -27,7 +27,7 @@ use Rattle.cover.specs.Cover.{Standing}
 use Rattle.ledger.specs.Ledger.{Ledger, inBounds}
 use Rattle.ledger.specs.Posting.{Near, Postable}
 use Rattle.month.specs.declared.Month.{Month}
-use Rattle.month.specs.Questions.{rowNumber, rowsNumber}
+use Rattle.questions.specs.Questions.{rowNumber, rowsNumber}
 use Rattle.month.specs.Steps.{Ready, inputsNumber}
 use Rattle.month.proofs.Accepted.{rows-standing}
 use Rattle.month.proofs.Asked.{Inputs, inputs}

@@ -1,6 +1,5 @@
--- Document 01, 'Calls', 'The questions' and 'The tally of a list', as definitions.
+-- Document 01, 'Calls', 'The questions' and the statement call, as definitions.
 pub mod Questions
 pub mod Calls
 pub mod Steps
-pub mod Tally
-pub mod Worked
+pub mod Statement

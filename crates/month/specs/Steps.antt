@@ -9,9 +9,10 @@ use Rattle.hour.specs.declared.Plant.{Plant}
 use Rattle.hour.specs.Table.{plantsOf, Equal}
 use Rattle.ledger.specs.Ledger.{Ledger}
 use Rattle.month.specs.declared.Month.{Month}
-use Rattle.month.specs.Questions.{ownNumber, tablesNumber, meteredNumber}
+use Rattle.questions.specs.Questions.{tablesNumber}
+use Rattle.month.specs.Questions.{ownNumber, meteredNumber}
 
--- 12 to 18: what settle asks before it works the hour, with `lent` figures in the allotment list
+-- 12, 2 to 4, 13, 5 to 11, 14 to 18: what settle asks before it works the hour, with `lent` figures in the allotment list
 unfoldable pub inputsNumber : Month → List Plant → List ℕ → List ℕ → ℕ → Ledger → ℕ
 inputsNumber m plants profile metered lent l =
     firstNo
@@ -20,7 +21,7 @@ inputsNumber m plants profile metered lent l =
     ∷ part (meteredNumber m profile metered lent)
     ∷ [])
 
--- 12 to 18 answered yes of columns equally long, with lists for the hour's figures and nets of the right lengths
+-- these answered yes of columns equally long, with lists for the hour's figures and nets of the right lengths
 pub record Ready (m : Month) (ss ns gs ls vs profile metered lent : List ℕ) (l : Ledger) (figures : List ℕ) (nets : List ℤ) : Type 0 where
   pub equal : Equal (length ss) ns gs ls vs
   pub asked : inputsNumber m (plantsOf ss ns gs ls vs) profile metered (length lent) l ≡ 0

@@ -1,8 +1,8 @@
 // Balance (document 01, 'Calls').
 use crate::Balanced;
 use crate::Month;
-use crate::questions::is_blank;
-use crate::questions::lengths_number;
+use crate::stages::is_blank;
+use questions::lengths_number;
 ghost use mathlib.Core.Path.{_≡_};
 ghost use Rattle.month.specs.Questions.{balanceNumber};
 ghost use Rattle.month.specs.Calls.{balanceCall};

@@ -2,7 +2,7 @@
 use crate::Ended;
 use crate::Month;
 use crate::Stage;
-use crate::questions::is_open;
+use crate::stages::is_open;
 ghost use mathlib.Core.Path.{_≡_};
 ghost use Rattle.month.specs.Questions.{closeNumber};
 ghost use Rattle.month.specs.Calls.{closeCall};

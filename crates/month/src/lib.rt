@@ -4,8 +4,9 @@ use sharing::Table;
 pub mod balance;
 pub mod close;
 pub mod open;
-pub mod questions;
 pub mod settle;
+pub mod stages;
+pub mod stating;
 
 // A month is blank, open or closed.
 pub enum Stage {
@@ -52,4 +53,18 @@ pub struct Balanced {
 pub struct Ended {
     pub number: u64,
     pub month: Month,
+}
+
+// What the statement call answers: its number, the month handed back, and the statement's length in bytes.
+pub struct Stated {
+    pub number: u64,
+    pub month: Month,
+    pub length: u64,
+}
+
+// What the sizing call answers: its number, the month handed back, and as many bytes as the statement call asks for.
+pub struct Sized {
+    pub number: u64,
+    pub month: Month,
+    pub size: u64,
 }

@@ -2,10 +2,10 @@
 use crate::Month;
 use crate::Opened;
 use crate::Stage;
-use crate::questions::is_open;
-use crate::questions::sizes_number;
-use crate::questions::tables_number;
+use crate::stages::is_open;
 use hour::Plant;
+use questions::sizes_number;
+use questions::tables_number;
 ghost use mathlib.Core.Path.{_≡_};
 ghost use lib.ListN.{length};
 ghost use mathlib.Core.List.{List};

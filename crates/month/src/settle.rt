@@ -1,13 +1,13 @@
 // Settle (document 01, 'Calls').
 use crate::Month;
 use crate::Settled;
-use crate::questions::MOST;
-use crate::questions::is_open;
-use crate::questions::sizes_number;
-use crate::questions::tables_number;
-use crate::questions::total;
+use crate::stages::is_open;
 use hour::Plant;
 use hour::Worked;
+use questions::MOST;
+use questions::sizes_number;
+use questions::tables_number;
+use questions::total;
 ghost use mathlib.Core.Path.{_≡_};
 ghost use mathlib.Core.Bool.{true};
 ghost use mathlib.Core.List.{List};
@@ -71,7 +71,7 @@ pub fn metered_number(month: Month, profile: &[u64], metered: &[u64], lent: u64)
     0
 }
 
-// 12 to 18: all that settle asks before it works the hour.
+// 12, 2 to 4, 13, 5 to 11, 14 to 18: all that settle asks before it works the hour.
 pub fn inputs_number(
     month: Month,
     submarket: &[u64],
@@ -164,7 +164,7 @@ impl Month {
         }
     }
 
-    // The hour of the period due, with 12 to 18 answered yes: worked into `figures` and `nets`, and written where 19 is answered yes too.
+    // The hour of the period due, with all these answered yes: worked into `figures` and `nets`, and written where 19 is answered yes too.
     fn settle_hour(
         mut self,
         submarket: &[u64],

@@ -21,7 +21,8 @@ use Rattle.hour.specs.Table.{plantsOf}
 use Rattle.ledger.specs.Ledger.{Ledger}
 use Rattle.month.specs.declared.Month.{Month}
 use Rattle.month.specs.declared.Ended as month
-use Rattle.month.specs.Questions.{placed, numbered, rowNumber, rowsNumber, closeNumber}
+use Rattle.questions.specs.Questions.{placed, numbered, rowNumber, rowsNumber}
+use Rattle.month.specs.Questions.{closeNumber}
 use Rattle.month.specs.Calls.{closeCall}
 use Rattle.statement.specs.Statement.{line, statementText, roomFor}
 use Rattle.statement.specs.Lengths.{statementLength}

@@ -7,8 +7,8 @@ use lib.ListN.{length, take}
 use Rattle.lists.specs.Questions.{outcome}
 use Rattle.lists.proofs.Questions.{refuses, accepts}
 use Rattle.hour.specs.Table.{plantsOf}
-use Rattle.month.specs.Questions.{sizesNumber}
-use Rattle.month.proofs.Asked.{Sizes, sizes}
+use Rattle.questions.specs.Questions.{sizesNumber}
+use Rattle.questions.proofs.Asked.{Sizes, sizes}
 use Rattle.month_file.specs.declared.MonthFile.{MonthFile}
 use Rattle.month_file.specs.File as file
 use Rattle.month_file.specs.File.{Progress, gathers, begun}

@@ -15,7 +15,8 @@ use Rattle.ledger.proofs.Bounds.{zeros-in-bounds}
 use Rattle.month.specs.declared.Month.{Month}
 use Rattle.month.specs.declared.Opened.{Opened}
 use Rattle.month.specs.declared.Stage.the-variants.{Open}
-use Rattle.month.specs.Questions.{lengthsNumber, tablesNumber, openNumber, rowsNumber}
+use Rattle.questions.specs.Questions.{lengthsNumber, tablesNumber, rowsNumber}
+use Rattle.month.specs.Questions.{openNumber}
 use Rattle.month.specs.Calls.{OpenEnd, openCall}
 use Rattle.month.proofs.Asked as asked
 use Rattle.month_file.specs.declared.MonthFile.{MonthFile}

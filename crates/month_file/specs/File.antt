@@ -11,7 +11,7 @@ use Rattle.hour.specs.declared.Plant.{Plant}
 use Rattle.ledger.specs.Ledger.{Ledger, zeros}
 use Rattle.month.specs.declared.Month.{Month}
 use Rattle.month.specs.declared.Stage.the-variants.{Blank}
-use Rattle.month.specs.Questions.{sizesNumber}
+use Rattle.questions.specs.Questions.{sizesNumber}
 use Rattle.month.specs.Calls.{openCall, settleCall, closeCall}
 use Rattle.statement.specs.Statement.{line, statementText}
 

@@ -12,7 +12,7 @@ use Rattle.hour.specs.declared.Plant.{Plant}
 use Rattle.hour.specs.Table.{plantsOf}
 use Rattle.ledger.specs.Ledger.{Ledger, inBounds}
 use Rattle.month.specs.declared.Month.{Month}
-use Rattle.month.specs.Questions.{rowsNumber}
+use Rattle.questions.specs.Questions.{rowsNumber}
 use Rattle.month_file.specs.declared.MonthFile.{MonthFile}
 use Rattle.month_file.specs.File.{Progress, begins, gathers, settles, refuses, opened, settled, printed}
 use Rattle.month_file.specs.Bytes.{Reading, isRefused, fed, start, finished}

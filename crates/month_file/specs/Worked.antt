@@ -13,7 +13,8 @@ use Rattle.ledger.specs.Ledger.{inBounds, zeros, added}
 use Rattle.lines.specs.Figures as text
 use Rattle.lines.specs.Fields.{toFirst, fields}
 use Rattle.lines.specs.Reading.{startsWith, lineStart, startLength, lineFields, countFits, readNumber}
-use Rattle.month.specs.Questions.{isOpen, isBlank, sizesNumber, placed, numbered, rowNumber, rowsNumber, lengthsNumber, tablesNumber, openNumber, ownNumber, meteredNumber, posted, boundsNumber, settleNumber, closeNumber}
+use Rattle.questions.specs.Questions.{sizesNumber, placed, numbered, rowNumber, rowsNumber, lengthsNumber, tablesNumber}
+use Rattle.month.specs.Questions.{isOpen, isBlank, openNumber, ownNumber, meteredNumber, posted, boundsNumber, settleNumber, closeNumber}
 use Rattle.month.specs.Calls.{openCall, settleCall, closeCall}
 use Rattle.statement.specs.Statement.{line, plantLine, plantLines, totalLine, statementText}
 use Rattle.month_file.specs.File.{unfinished, linesAfter, lines, plantOf, inTurn, begun, opened, settled, taken, read, next, refusal, printed, following, settledFile}

@@ -1,7 +1,7 @@
 // Before the first line, and the first line.
 use crate::MonthFile;
 use crate::opening::blank;
-use month::questions::sizes_number;
+use questions::sizes_number;
 ghost use mathlib.Core.Path.{_≡_};
 ghost use mathlib.Core.List.{List};
 ghost use Prim.Native.Nat.{ℕ, _+_};

@@ -1,8 +1,13 @@
 // The month's calls for C. A month with an enum cannot cross: C keeps one whose stage is a number.
+use hour::Plant;
 use month::Month;
 use month::Stage;
+use sharing::Table;
 ghost use mathlib.Core.Path.{_≡_};
-ghost use Rattle.recorder.specs.Months.{stageOf, stageNumber, monthOf, keptOf, handedBack, closeKept, balanceKept};
+ghost use mathlib.Core.List.{List};
+ghost use Rattle.hour.specs.declared.Plant.{Plant};
+ghost use Rattle.records.specs.Records.{Held};
+ghost use Rattle.recorder.specs.Months.{stageOf, stageNumber, monthOf, keptOf, handedBack, OpenKeptEnd, openKept, SettleKeptEnd, settleKept, closeKept, balanceKept, StatementKeptEnd, statementKept, SizeKept};
 
 // A month as the caller keeps it. Stage: 0 blank, 1 open, 2 closed; any other number is read as blank.
 #[repr(C)]
@@ -21,6 +26,17 @@ pub struct KeptEnd {
     pub month: KeptMonth,
 }
 
+// What settle answers: the number, the month handed back, Z, A and both tables.
+#[repr(C)]
+pub struct KeptSettle {
+    pub number: u64,
+    pub month: KeptMonth,
+    pub secondary: u64,
+    pub guarantees: u64,
+    pub cover_table: Table,
+    pub secondary_table: Table,
+}
+
 // What balance answers: the number, the month handed back, the four column sums, the sum of nets and the sum of money.
 #[repr(C)]
 pub struct KeptBalance {
@@ -29,6 +45,22 @@ pub struct KeptBalance {
     pub columns: [u64; 4],
     pub net: i64,
     pub money: i64,
+}
+
+// What statement answers: the number, the month handed back, and the statement's length in bytes.
+#[repr(C)]
+pub struct KeptStated {
+    pub number: u64,
+    pub month: KeptMonth,
+    pub length: u64,
+}
+
+// What statement_size answers: the number, the month handed back, and a size in bytes that the statement does not pass.
+#[repr(C)]
+pub struct KeptSized {
+    pub number: u64,
+    pub month: KeptMonth,
+    pub size: u64,
 }
 
 fn stage_of(number: u64) -> Stage
@@ -90,6 +122,96 @@ fn handed_back(number: u64, kept: KeptMonth, month: Month) -> KeptMonth
     kept_of(month)
 }
 
+// Open on the columns of n records.
+fn open_kept(
+    month: KeptMonth,
+    n: usize,
+    c: [u64; 2560],
+    profile: &[u64],
+    tariff: u64,
+    allotted: &mut [u64],
+    accounts: &mut [i64],
+) -> KeptEnd
+    ensures { λ r. ⌜ ((plants : List Plant) → Held plants n c → _≡_ {A = OpenKeptEnd} (record { answer = r; ledger = record { allotted = now (allotted .exit); accounts = now (accounts .exit) } }) (openKept month plants (now (profile .entry)) tariff (record { allotted = now (allotted .entry); accounts = now (accounts .entry) }))) ⌝ }
+{
+    let opened = month_of(month).open_table(n, c, profile, tariff, allotted, accounts);
+    let after = opened.month;
+    KeptEnd {
+        number: opened.number,
+        month: handed_back(opened.number, month, after),
+    }
+}
+
+// Month::open.
+#[no_mangle]
+pub extern "C" fn iolwarch_open(
+    month: KeptMonth,
+    plants: &[Plant],
+    profile: &[u64],
+    tariff: u64,
+    allotted: &mut [u64],
+    accounts: &mut [i64],
+) -> KeptEnd
+    ensures { λ r. ⌜ _≡_ {A = OpenKeptEnd} (record { answer = r; ledger = record { allotted = now (allotted .exit); accounts = now (accounts .exit) } }) (openKept month (now (plants .entry)) (now (profile .entry)) tariff (record { allotted = now (allotted .entry); accounts = now (accounts .entry) })) ⌝ }
+{
+    let n = plants.len();
+    let c = records::columns(plants);
+    open_kept(month, n, c, profile, tariff, allotted, accounts)
+}
+
+// Settle on the columns of n records.
+fn settle_kept(
+    month: KeptMonth,
+    n: usize,
+    c: [u64; 2560],
+    profile: &[u64],
+    metered: &[u64],
+    allotment: &mut [u64],
+    allotted: &mut [u64],
+    accounts: &mut [i64],
+) -> KeptSettle
+    ensures { λ r. ⌜ ((plants : List Plant) → Held plants n c → _≡_ {A = SettleKeptEnd} (record { answer = r; allotment = now (allotment .exit); ledger = record { allotted = now (allotted .exit); accounts = now (accounts .exit) } }) (settleKept month plants (now (profile .entry)) (now (metered .entry)) (now (allotment .entry)) (record { allotted = now (allotted .entry); accounts = now (accounts .entry) }))) ⌝ }
+{
+    let settled = month_of(month).settle_table(
+        n,
+        c,
+        profile,
+        metered,
+        allotment,
+        allotted,
+        accounts,
+    );
+    let after = settled.month;
+    let cover_table = settled.cover_table;
+    let secondary_table = settled.secondary_table;
+    KeptSettle {
+        number: settled.number,
+        month: handed_back(settled.number, month, after),
+        secondary: settled.secondary,
+        guarantees: settled.guarantees,
+        cover_table,
+        secondary_table,
+    }
+}
+
+// Month::settle.
+#[no_mangle]
+pub extern "C" fn iolwarch_settle(
+    month: KeptMonth,
+    plants: &[Plant],
+    profile: &[u64],
+    metered: &[u64],
+    allotment: &mut [u64],
+    allotted: &mut [u64],
+    accounts: &mut [i64],
+) -> KeptSettle
+    ensures { λ r. ⌜ _≡_ {A = SettleKeptEnd} (record { answer = r; allotment = now (allotment .exit); ledger = record { allotted = now (allotted .exit); accounts = now (accounts .exit) } }) (settleKept month (now (plants .entry)) (now (profile .entry)) (now (metered .entry)) (now (allotment .entry)) (record { allotted = now (allotted .entry); accounts = now (accounts .entry) })) ⌝ }
+{
+    let n = plants.len();
+    let c = records::columns(plants);
+    settle_kept(month, n, c, profile, metered, allotment, allotted, accounts)
+}
+
 // Month::close.
 #[no_mangle]
 pub extern "C" fn iolwarch_close(month: KeptMonth) -> KeptEnd
@@ -121,4 +243,72 @@ pub extern "C" fn iolwarch_balance(
         net: balance.net,
         money: balance.money,
     }
+}
+
+// The statement on the columns of n records.
+fn statement_kept(
+    month: KeptMonth,
+    n: usize,
+    c: [u64; 2560],
+    allotted: &[u64],
+    accounts: &[i64],
+    bytes: &mut [u8],
+) -> KeptStated
+    ensures { λ r. ⌜ ((plants : List Plant) → Held plants n c → _≡_ {A = StatementKeptEnd} (record { answer = r; bytes = now (bytes .exit) }) (statementKept month plants (record { allotted = now (allotted .entry); accounts = now (accounts .entry) }) (now (bytes .entry)))) ⌝ }
+{
+    let stated = month_of(month).statement_table(n, c, allotted, accounts, bytes);
+    KeptStated {
+        number: stated.number,
+        month,
+        length: stated.length,
+    }
+}
+
+// Month::statement.
+#[no_mangle]
+pub extern "C" fn iolwarch_statement(
+    month: KeptMonth,
+    plants: &[Plant],
+    allotted: &[u64],
+    accounts: &[i64],
+    bytes: &mut [u8],
+) -> KeptStated
+    ensures { λ r. ⌜ _≡_ {A = StatementKeptEnd} (record { answer = r; bytes = now (bytes .exit) }) (statementKept month (now (plants .entry)) (record { allotted = now (allotted .entry); accounts = now (accounts .entry) }) (now (bytes .entry))) ⌝ }
+{
+    let n = plants.len();
+    let c = records::columns(plants);
+    statement_kept(month, n, c, allotted, accounts, bytes)
+}
+
+// The size on the columns of n records.
+fn size_kept(
+    month: KeptMonth,
+    n: usize,
+    c: [u64; 2560],
+    allotted: &[u64],
+    accounts: &[i64],
+) -> KeptSized
+    ensures { λ r. ⌜ ((plants : List Plant) → Held plants n c → SizeKept month plants (record { allotted = now (allotted .entry); accounts = now (accounts .entry) }) r) ⌝ }
+{
+    let sized = month_of(month).size_table(n, c, allotted, accounts);
+    KeptSized {
+        number: sized.number,
+        month,
+        size: sized.size,
+    }
+}
+
+// Month::statement_size.
+#[no_mangle]
+pub extern "C" fn iolwarch_statement_size(
+    month: KeptMonth,
+    plants: &[Plant],
+    allotted: &[u64],
+    accounts: &[i64],
+) -> KeptSized
+    ensures { λ r. ⌜ SizeKept month (now (plants .entry)) (record { allotted = now (allotted .entry); accounts = now (accounts .entry) }) r ⌝ }
+{
+    let n = plants.len();
+    let c = records::columns(plants);
+    size_kept(month, n, c, allotted, accounts)
 }

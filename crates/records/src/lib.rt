@@ -36,7 +36,7 @@ pub fn capped(n: usize) -> usize
     if n < 512 { n } else { 512 }
 }
 
-// The columns of the first 512 records; places past the last record hold 0.
+// The columns of the first 512 records.
 pub fn columns(plants: &[Plant]) -> [u64; 2560]
     ensures { λ r. ⌜ Held (now (plants .entry)) (length (now (plants .entry))) r ⌝ }
 {

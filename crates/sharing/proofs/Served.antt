@@ -9,7 +9,7 @@ use Rattle.lists.specs.Columns.{rowwise, _⊖_, joined, transpose}
 use Rattle.lists.proofs.Sums.{at-le-sum}
 use Rattle.lists.proofs.Columns.{_!_, length-rowwise, at-⊕, at-⊖, sum-⊖, sum-ext, at-joined, transpose-at, transpose-sum}
 use Rattle.sharing.specs.Sharing.{Rule, serve, transfer}
-use Rattle.sharing.specs.Laws.{Lawful, Served, rowSum}
+use Rattle.sharing.specs.Laws.{Lawful, Served, Transfers, rowSum}
 use Rattle.sharing.proofs.Sharing.{adds-le}
 
 pub length-serve : {A : Type 0} (f : A → List ℕ → List ℕ) (ws : List ℕ) (ts : List A) → length (serve f ws ts) ≡ length ts
@@ -144,3 +144,6 @@ module _ {rule : Rule} (L : Lawful rule) where
       ≡ transfer rule left need
   unfolding transfer serve
   four-needs left need e = sym (ap (λ n. transpose 0 (serve rule left n)) (four-is 0 need e))
+
+pub transfers : Transfers
+transfers = record { served = λ rule L left need h. served L left need h }

@@ -48,3 +48,7 @@ pub record Served (rule : Rule) (left need : List ℕ) : Type 0 where
   pub given : (g : ℕ) → sum (getD (transfer rule left need) g []) ≤ getD left g 0
   -- a submarket that has not both gives itself nothing
   pub apart : (s : ℕ) → min (getD left s 0) (getD need s 0) ≡ 0 → place (transfer rule left need) s s ≡ 0
+
+-- ... by any lawful rule, whatever is left and needed
+pub record Transfers : Type 0 where
+  pub served : (rule : Rule) → Lawful rule → (left need : List ℕ) → sum need ≤ sum left → Served rule left need

@@ -14,7 +14,7 @@ use Rattle.statement.specs.Statement.{line, plantLine, plantLines, total
 abbrev plant : ℕ → ℕ → ℕ → Plant
 plant s n q = record { submarket = s; number = n; guarantee = q; loss = 1000000; availability = 1000000 }
 
-abbrev plants : List Plant
+abbrev pub plants : List Plant
 plants = plant 1 10 100 ∷ plant 1 11 50 ∷ plant 2 20 60 ∷ []
 
 -- the ledger after the month's one hour; `negsuc 22` is -23
@@ -26,21 +26,21 @@ ledger =
     }
 
 -- `A,1,10,85,0,0,0,45,58500` and its end
-abbrev first : List ℕ
+abbrev pub first : List ℕ
 first = 65 ∷ 44 ∷ 49 ∷ 44 ∷ 49 ∷ 48 ∷ 44 ∷ 56 ∷ 53 ∷ 44 ∷ 48 ∷ 44 ∷ 48 ∷ 44 ∷ 48 ∷ 44 ∷ 52 ∷ 53 ∷ 44 ∷ 53 ∷ 56 ∷ 53 ∷ 48 ∷ 48 ∷ 10 ∷ []
 
 -- `A,1,11,43,0,0,0,-23,-29900`
-abbrev second : List ℕ
+abbrev pub second : List ℕ
 second =
     65 ∷ 44 ∷ 49 ∷ 44 ∷ 49 ∷ 49 ∷ 44 ∷ 52 ∷ 51 ∷ 44 ∷ 48 ∷ 44 ∷ 48 ∷ 44 ∷ 48 ∷ 44 ∷ 45 ∷ 50 ∷ 51 ∷ 44 ∷ 45 ∷ 50 ∷ 57 ∷ 57 ∷ 48 ∷ 48 ∷ 10 ∷ []
 
 -- `A,2,20,22,30,0,0,-22,-28600`
-abbrev third : List ℕ
+abbrev pub third : List ℕ
 third =
     65 ∷ 44 ∷ 50 ∷ 44 ∷ 50 ∷ 48 ∷ 44 ∷ 50 ∷ 50 ∷ 44 ∷ 51 ∷ 48 ∷ 44 ∷ 48 ∷ 44 ∷ 48 ∷ 44 ∷ 45 ∷ 50 ∷ 50 ∷ 44 ∷ 45 ∷ 50 ∷ 56 ∷ 54 ∷ 48 ∷ 48 ∷ 10 ∷ []
 
 -- `T,1,3,150,30,0,0,180`
-abbrev total : List ℕ
+abbrev pub total : List ℕ
 total = 84 ∷ 44 ∷ 49 ∷ 44 ∷ 51 ∷ 44 ∷ 49 ∷ 53 ∷ 48 ∷ 44 ∷ 51 ∷ 48 ∷ 44 ∷ 48 ∷ 44 ∷ 48 ∷ 44 ∷ 49 ∷ 56 ∷ 48 ∷ 10 ∷ []
 
 pub worked : statementText 1 plants ledger ≡ first ++ (second ++ (third ++ total))

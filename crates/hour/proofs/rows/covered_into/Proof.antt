@@ -15,7 +15,7 @@ returns : tie.Need-returns
 returns c =
     let start = c .before .before .before .before .before .before .before in
     let e : leb (sum (start .args .a .now)) (start .args .generation) ≡ true = le-leb (sum (start .args .a .now)) (start .args .generation) (omega arith) in
-    rw e (c .before .before .copy-into .ensures)
+    rw e (whole-written _ _ (start .args .b .now) (c .before .before .copy-into .ensures) (le-of-eq (start .pre .1)))
 
 returns-2 : tie.Need-returns-2
 returns-2 c =

@@ -1,5 +1,5 @@
 -- `hour::rows::rights_into` meets its contract. Assumes nothing.
-use mathlib.Core.Path.{_≡_, _∙_}
+use mathlib.Core.Path.{_≡_, sym, _∙_}
 use mathlib.Core.Bool.{true, false}
 use native.Mathlib.Omega.{arith}
 use native.Mathlib.Nat.{le-of-eq}
@@ -15,7 +15,7 @@ returns : tie.Need-returns
 returns c =
     let start = c .before .before .before .before .before .before .before .before in
     let e : eqb (sum (start .args .a .now)) 0 ≡ true = eq-eqb (sum (start .args .a .now)) 0 (omega arith) in
-    rw e (c .before .before .copy-into .ensures)
+    rw e (whole-written _ _ (start .args .r .now) (c .before .before .copy-into .ensures) (le-of-eq (start .pre .1 .1 ∙ sym (start .pre .1 .0))))
 
 returns-2 : tie.Need-returns-2
 returns-2 c =

@@ -4,7 +4,7 @@ use native.Mathlib.Omega.{arith}
 use Rattle.lists.proofs.Questions.{asks}
 use Rattle.hour.proofs.Table.{length-plants}
 use Rattle.month.specs.Questions.{openNumber}
-use Rattle.month.proofs.Asked.{sizes}
+use Rattle.questions.proofs.Asked.{sizes}
 use Rattle.month.proofs.open.open_number.Statement.{statement}
 use Rattle.month.proofs.open.open_number.Tie as tie
 

@@ -1,0 +1,129 @@
+-- The ledger adds up: from zeros, and hour by hour. Assumes nothing.
+use mathlib.Core.Path.{_≡_, refl, sym, ap, ap₂, _∙_, subst}
+use Prim.Native.Nat.{ℕ, zero, suc, _+_, _-_, _*_, _≤_, _<_}
+use native.Mathlib.Omega.{arith}
+use mathlib.Core.List.{List, [], _∷_, map}
+use lib.IntN.{ℤ, pos, subℕ, _+ℤ_, _*ℤ_, zero-*ℤ}
+use lib.ListN.{length, getD, take, drop, replicate}
+use Rattle.lists.specs.Columns.{rowwise, _⊕_, _⊕ℤ_, column}
+use Rattle.lists.specs.Lists.{sum, sumℤ}
+use Rattle.lists.proofs.Columns.{_!_, getD-rowwise, at-⊕, sum-⊕, sum-nil}
+use Rattle.lists.proofs.Rows.{column-at, column-rowwise, row-sum, at-replicate}
+use Rattle.signed.proofs.Sums.{plus-sub, sumℤ-⊕, sumℤ-times, sumℤ-nil}
+use Rattle.signed.proofs.View.{plus-swap, times-plus}
+use Rattle.hour.specs.Hour.{Hour, submarkets, covered, rights, figure, nets, allotment, accounts}
+use Rattle.hour.proofs.Hour.{Sound, column-sum}
+use Rattle.hour.proofs.Figures.{hour-column, hour-row, net-column, money-column, nets-sum, at-nets, net-at, money-at}
+use Rattle.ledger.specs.Ledger.{Ledger, zeros, added, allottedIn, netColumn, moneyColumn}
+use Rattle.month.specs.Questions.{posted}
+use Rattle.demand.specs.Tally.{total, meteredIn, meteredOfRow, coveredOfRow, rowAllotted, netOf, moneyOf, AddsUp}
+
+-- the four figures of row i, by columns
+row-is : (l : List ℕ) (i : ℕ) → sum (take 4 (drop (4 * i) l)) ≡ column 4 0 l ! i + column 4 1 l ! i + column 4 2 l ! i + column 4 3 l ! i
+unfolding sum
+row-is l i = row-sum 4 (omega arith) l i ∙ omega arith
+
+-- the net of row i, by columns
+net-is : (l : Ledger) (i : ℕ) → netOf i l ≡ getD (netColumn l) i (pos 0)
+net-is l i = ap (λ (j : ℕ). getD (l .accounts) j (pos 0)) (index i) ∙ sym (column-at 2 0 (omega arith) (l .accounts) i (pos 0))
+  where
+    index : (i : ℕ) → 2 * i ≡ 0 + i * 2
+    index i = omega arith
+
+-- ---- zeros
+pub zeros-add-up : (p : ℕ) → AddsUp (zeros p) []
+unfolding zeros total
+zeros-add-up p =
+    record {
+      columns = λ s l h. sum-nil (column 4 (s - 1) (replicate (4 * p) 0)) (figure (s - 1));
+      rows = λ i.
+          let e : rowAllotted i (zeros p) ≡ 0 =
+          row-is (replicate (4 * p) 0) i ∙ (let a = figure 0 i in let b = figure 1 i in let c = figure 2 i in let d = figure 3 i in omega arith) in
+          ap₂ (λ x y. pos x +ℤ y) e (at-replicate (2 * p) (2 * i) (pos 0));
+      netsZero = sumℤ-nil (column 2 0 (replicate (2 * p) (pos 0))) (account 0);
+      moneyZero = sumℤ-nil (column 2 1 (replicate (2 * p) (pos 0))) (account 1);
+      coveredMet = λ i. omega arith;
+    }
+  where
+    figure : (k i : ℕ) → column 4 k (replicate (4 * p) 0) ! i ≡ 0
+    figure k i = column-at 4 k (omega arith) (replicate (4 * p) 0) i 0 ∙ at-replicate (4 * p) (k + i * 4) 0
+
+    account : (k i : ℕ) → getD (column 2 k (replicate (2 * p) (pos 0))) i (pos 0) ≡ pos 0
+    account k i = column-at 2 k (omega arith) (replicate (2 * p) (pos 0)) i (pos 0) ∙ at-replicate (2 * p) (k + i * 2) (pos 0)
+
+-- ---- one hour more
+module _ (l : Ledger) (hs : List Hour) (now : AddsUp l hs) (h : Hour) (ok : Sound h) (tariff : ℕ) where
+  posted-column : (k : ℕ) → column 4 k (posted l h tariff .allotted) ≡ column 4 k (l .allotted) ⊕ column 4 k (allotment h)
+  unfolding posted added
+  posted-column k = column-rowwise _+_ 0 0 4 k (l .allotted) (allotment h)
+
+  posted-accounts : (k : ℕ) → column 2 k (posted l h tariff .accounts) ≡ column 2 k (l .accounts) ⊕ℤ column 2 k (accounts h tariff)
+  unfolding posted added
+  posted-accounts k = column-rowwise _+ℤ_ (pos 0) (pos 0) 2 k (l .accounts) (accounts h tariff)
+
+  posted-at : (k i : ℕ) → column 4 k (posted l h tariff .allotted) ! i ≡ column 4 k (l .allotted) ! i + column 4 k (allotment h) ! i
+  posted-at k i = rw posted-column (at-⊕ (column 4 k (l .allotted)) (column 4 k (allotment h)) i)
+
+  posted-row : (i : ℕ) → rowAllotted i (posted l h tariff) ≡ rowAllotted i l + (covered h ! i + rights h ! i)
+  posted-row i =
+      let a = row-is (posted l h tariff .allotted) i in let b = row-is (l .allotted) i in let c = hour-row h ok i in
+      let p = posted-at 0 i in let q = posted-at 1 i in let r = posted-at 2 i in let s = posted-at 3 i in
+      omega arith
+
+  posted-net : (i : ℕ) → netOf i (posted l h tariff) ≡ netOf i l +ℤ subℕ (h .metered ! i) (covered h ! i + rights h ! i)
+  posted-net i =
+      net-is (posted l h tariff) i
+      ∙ ap (λ zs. getD zs i (pos 0)) (posted-accounts 0 ∙ ap (λ zs. column 2 0 (l .accounts) ⊕ℤ zs) (net-column h ok tariff))
+      ∙ getD-rowwise _+ℤ_ (pos 0) (pos 0) refl (netColumn l) (nets h) i
+      ∙ ap₂ (λ x y. x +ℤ y) (sym (net-is l i)) (at-nets h ok i)
+
+  pub posted-adds-up : AddsUp (posted l h tariff) (h ∷ hs)
+  unfolding total
+  posted-adds-up =
+      record {
+        columns = λ s m n.
+            ap sum (posted-column (s - 1) ∙ ap (λ xs. column 4 (s - 1) (l .allotted) ⊕ xs) (hour-column h ok s m n))
+            ∙ (let a = sum-⊕ (column 4 (s - 1) (l .allotted)) (figure h s) in let b = now .columns s m n in
+            let c = column-sum h ok s m n in omega arith);
+        rows = λ i.
+            ap₂ (λ x y. pos x +ℤ y) (posted-row i) (posted-net i)
+            ∙ plus-swap (pos (rowAllotted i l)) (pos (covered h ! i + rights h ! i)) (netOf i l) (subℕ (h .metered ! i) (covered h ! i + rights h ! i))
+            ∙ ap₂ (λ x y. x +ℤ y) (now .rows i) (plus-sub (covered h ! i + rights h ! i) (h .metered ! i))
+            ∙ ap pos (omega arith);
+        netsZero =
+            ap sumℤ (posted-accounts 0 ∙ ap (λ zs. column 2 0 (l .accounts) ⊕ℤ zs) (net-column h ok tariff))
+            ∙ sumℤ-⊕ (netColumn l) (nets h) ∙ ap₂ (λ x y. x +ℤ y) (now .netsZero) (nets-sum h ok);
+        moneyZero =
+            ap sumℤ (posted-accounts 1 ∙ ap (λ zs. column 2 1 (l .accounts) ⊕ℤ zs) (money-column h ok tariff))
+            ∙ sumℤ-⊕ (moneyColumn l) (map (λ z. z *ℤ pos tariff) (nets h))
+            ∙ ap₂ (λ x y. x +ℤ y) (now .moneyZero)
+            (sumℤ-times (nets h) tariff ∙ ap (λ z. z *ℤ pos tariff) (nets-sum h ok) ∙ zero-*ℤ (pos tariff));
+        coveredMet = λ i. let a = posted-row i in let b = now .coveredMet i in omega arith;
+      }
+
+-- each row's money is its net × TEO: from zeros, and hour by hour
+money-is : (l : Ledger) (i : ℕ) → moneyOf i l ≡ getD (moneyColumn l) i (pos 0)
+money-is l i = ap (λ (j : ℕ). getD (l .accounts) j (pos 0)) (index i) ∙ sym (column-at 2 1 (omega arith) (l .accounts) i (pos 0))
+  where
+    index : (i : ℕ) → 2 * i + 1 ≡ 1 + i * 2
+    index i = omega arith
+
+pub zeros-priced : (p tariff i : ℕ) → moneyOf i (zeros p) ≡ netOf i (zeros p) *ℤ pos tariff
+unfolding zeros
+zeros-priced p tariff i =
+    at-replicate (2 * p) (2 * i + 1) (pos 0) ∙ sym (ap (λ z. z *ℤ pos tariff) (at-replicate (2 * p) (2 * i) (pos 0)) ∙ zero-*ℤ (pos tariff))
+
+pub posted-priced : (l : Ledger) (h : Hour) → Sound h → (tariff : ℕ) → ((i : ℕ) → moneyOf i l ≡ netOf i l *ℤ pos tariff)
+    → (i : ℕ) → moneyOf i (posted l h tariff) ≡ netOf i (posted l h tariff) *ℤ pos tariff
+unfolding posted added
+posted-priced l h ok tariff so i =
+    money-is (posted l h tariff) i
+    ∙ ap (λ zs. getD zs i (pos 0)) (column-rowwise _+ℤ_ (pos 0) (pos 0) 2 1 (l .accounts) (accounts h tariff))
+    ∙ getD-rowwise _+ℤ_ (pos 0) (pos 0) refl (moneyColumn l) (column 2 1 (accounts h tariff)) i
+    ∙ ap₂ (λ x y. x +ℤ y) (sym (money-is l i) ∙ so i) (column-at 2 1 (omega arith) (accounts h tariff) i (pos 0) ∙ money-at h ok tariff i)
+    ∙ sym (times-plus (netOf i l) (subℕ (h .metered ! i) (covered h ! i + rights h ! i)) tariff)
+    ∙ ap (λ z. z *ℤ pos tariff)
+    (sym (net-is (posted l h tariff) i
+    ∙ ap (λ zs. getD zs i (pos 0)) (column-rowwise _+ℤ_ (pos 0) (pos 0) 2 0 (l .accounts) (accounts h tariff))
+    ∙ getD-rowwise _+ℤ_ (pos 0) (pos 0) refl (netColumn l) (column 2 0 (accounts h tariff)) i
+    ∙ ap₂ (λ x y. x +ℤ y) (sym (net-is l i)) (column-at 2 0 (omega arith) (accounts h tariff) i (pos 0) ∙ net-at h ok tariff i)))

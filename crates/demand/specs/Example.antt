@@ -1,0 +1,51 @@
+-- Document 01's example month opened, settled and closed: the statement call writes the four lines that the paper shows, by computing. Assumes nothing.
+use mathlib.Core.Path.{_≡_, refl}
+use Prim.Native.Nat.{ℕ}
+use mathlib.Core.List.{List, [], _∷_, _++_, flatten}
+use lib.ListN.{replicate}
+use lib.IntN.{pos}
+use Rattle.lists.specs.Lists.{sum, every, atMost}
+use Rattle.lists.specs.Columns.{rowwise, joined, totals, transpose, column}
+use Rattle.lists.specs.Questions.{_then_, firstNo, inRange, outcome}
+use Rattle.signed.specs.Figures.{isWithin, accountsOf}
+use Rattle.sharing.specs.Sharing.{parts, share, serve, transfer}
+use Rattle.cover.specs.Cover.{portion, own, ownParts, table, got, rest}
+use Rattle.hour.specs.Hour.{hourOf, modulated, guaranteed, submarkets, guarantees, secondary, covered, deficit, surplus, leftOver, rights, ownCover, coverGot, ownSecondary, secondaryGot, coverTable, secondaryTable, figure, nets, allotment, accounts}
+use Rattle.ledger.specs.Ledger.{Ledger, inBounds, zeros, added}
+use Rattle.lines.specs.Figures.{digits, figure as figureText, minus, signedFigure}
+use Rattle.statement.specs.Statement.{line, plantLine, plantLines, totalLine, statementText, roomFor}
+use Rattle.statement.specs.Worked.{plants, first, second, third, total}
+use Rattle.month.specs.declared.Month.{Month}
+use Rattle.month.specs.declared.Stage.the-variants.{Blank, Closed}
+use Rattle.questions.specs.Questions.{sizesNumber, placed, numbered, rowNumber, rowsNumber, lengthsNumber, tablesNumber}
+use Rattle.month.specs.Questions.{isOpen, isBlank, openNumber, ownNumber, meteredNumber, posted, boundsNumber, settleNumber, closeNumber}
+use Rattle.month.specs.Calls.{OpenEnd, SettleEnd, openCall, settleCall, closeCall}
+use Rattle.month.specs.Statement.{dueNumber, sizingNumber, statementNumber, statementOf, statementCall}
+
+abbrev opened : OpenEnd
+opened =
+    openCall (record { stage = Blank; plants = 0; periods = 0; tariff = 0; due = 0 }) plants (180 ∷ []) 1300
+    (record { allotted = replicate 12 1; accounts = replicate 6 (pos 1) })
+
+abbrev settled : SettleEnd
+settled = settleCall (opened .answer .month) plants (180 ∷ []) (130 ∷ 20 ∷ 30 ∷ []) (replicate 12 0) (opened .ledger)
+
+abbrev closed : Month
+closed = closeCall (settled .answer .month) .month
+
+pub record Example : Type 0 where
+  -- 22 asks for 128 × 3 + 128 bytes
+  stated : statementCall closed plants (settled .ledger) (replicate 512 7)
+      ≡ record {
+        answer = record { number = 0; month = record { stage = Closed; plants = 3; periods = 1; tariff = 1300; due = 2 }; length = 101 };
+        bytes = first ++ (second ++ (third ++ (total ++ replicate 411 7)));
+      }
+  short : statementCall closed plants (settled .ledger) (replicate 511 7)
+      ≡ record {
+        answer = record { number = 22; month = record { stage = Closed; plants = 3; periods = 1; tariff = 1300; due = 2 }; length = 0 };
+        bytes = replicate 511 7;
+      }
+
+pub example : Example
+unfolding rowwise sum every atMost joined totals transpose flatten _then_ firstNo inRange outcome parts share serve transfer hourOf modulated guaranteed portion own ownParts table got rest submarkets guarantees secondary covered deficit surplus leftOver rights ownCover coverGot ownSecondary secondaryGot coverTable secondaryTable figure nets allotment accountsOf accounts column isWithin inBounds zeros added posted isOpen isBlank sizesNumber placed numbered rowNumber rowsNumber lengthsNumber tablesNumber openNumber ownNumber meteredNumber boundsNumber settleNumber closeNumber openCall settleCall closeCall digits figureText minus signedFigure line plantLine plantLines totalLine statementText roomFor dueNumber sizingNumber statementNumber statementOf statementCall
+example = record { stated = refl; short = refl }

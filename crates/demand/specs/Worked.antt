@@ -1,0 +1,120 @@
+-- "Hours to prove by hand": m1 to m8 as one list, proved over the definitions by computing, and the example file's month as a list of calls.
+-- Assumes nothing.
+use mathlib.Core.Path.{_≡_, refl}
+use Prim.Native.Nat.{ℕ}
+use mathlib.Core.List.{List, [], _∷_, map, flatten}
+use lib.ListN.{replicate}
+use lib.IntN.{ℤ, pos, negsuc}
+use Rattle.lists.specs.Lists.{sum, sumℤ, every, atMost}
+use Rattle.lists.specs.Columns.{rowwise, joined, totals, transpose, column}
+use Rattle.lists.specs.Questions.{_then_, firstNo, inRange, outcome}
+use Rattle.signed.specs.Figures.{isWithin, accountsOf}
+use Rattle.sharing.specs.Sharing.{parts, share, serve, transfer}
+use Rattle.sharing.specs.Calls.{noTable, apart, sharingNumber, sharingCall, transferNumber, transferCall}
+use Rattle.cover.specs.Cover.{portion, own, ownParts, table, got, rest}
+use Rattle.hour.specs.declared.Plant.{Plant}
+use Rattle.hour.specs.Hour.{Hour, hourOf, modulated, guaranteed, submarkets, guarantees, secondary, covered, deficit, surplus, leftOver, rights, ownCover, coverGot, ownSecondary, secondaryGot, coverTable, secondaryTable, figure, nets, allotment, accounts}
+use Rattle.ledger.specs.Ledger.{Ledger, inBounds, zeros, added}
+use Rattle.month.specs.declared.Stage.the-variants.{Blank, Closed}
+use Rattle.questions.specs.Questions.{sizesNumber, placed, numbered, rowNumber, rowsNumber, lengthsNumber, tablesNumber}
+use Rattle.month.specs.Questions.{isOpen, isBlank, openNumber, ownNumber, meteredNumber, posted, boundsNumber, settleNumber, closeNumber, balanceNumber}
+use Rattle.month.specs.Calls.{openCall, settleCall, balanceCall, closeCall}
+use Rattle.demand.specs.Tally.{Call, opens, settles, balances, closes, State, number, next, after, Entry, entries}
+
+abbrev plant : ℕ → ℕ → ℕ → Plant
+plant s n q = record { submarket = s; number = n; guarantee = q; loss = 1000000; availability = 1000000 }
+
+-- an hour with one period and the plants 10 and 11 of submarket 1 and 20 of submarket 2
+abbrev hour : ℕ → ℕ → ℕ → ℕ → ℕ → ℕ → ℕ → Hour
+hour q₁ q₂ q₃ whole g₁ g₂ g₃ =
+    hourOf (plant 1 10 q₁ ∷ plant 1 11 q₂ ∷ plant 2 20 q₃ ∷ []) (whole ∷ []) (g₁ ∷ g₂ ∷ g₃ ∷ []) 1
+
+abbrev small : Plant
+small = record { submarket = 1; number = 1; guarantee = 101; loss = 970000; availability = 900000 }
+
+-- (m3): Q 100 over three periods of 1
+abbrev hundred : Plant
+hundred = plant 1 1 100
+
+-- (m1) and (m2): the file's hour, and 240 kWh over the same plants; (m5) all Q zero
+abbrev h1 : Hour
+h1 = hour 100 50 60 180 130 20 30
+
+abbrev h2 : Hour
+h2 = hour 100 50 60 240 200 0 40
+
+abbrev h5 : Hour
+h5 = hour 0 0 0 180 130 20 30
+
+pub record Worked : Type 0 where
+  m1 : allotment h1 ≡ 85 ∷ 0 ∷ 0 ∷ 0 ∷ 43 ∷ 0 ∷ 0 ∷ 0 ∷ 22 ∷ 30 ∷ 0 ∷ 0 ∷ []
+  m1·accounts : accounts h1 1300 ≡ pos 45 ∷ pos 58500 ∷ negsuc 22 ∷ negsuc 29899 ∷ negsuc 21 ∷ negsuc 28599 ∷ []
+  m1·covered : covered h1 ≡ 85 ∷ 43 ∷ 52 ∷ []
+  m2 : allotment h2 ≡ 114 ∷ 0 ∷ 0 ∷ 0 ∷ 57 ∷ 0 ∷ 0 ∷ 0 ∷ 29 ∷ 40 ∷ 0 ∷ 0 ∷ []
+  m2·secondary : secondary h2 ≡ 30
+  m2·rights : rights h2 ≡ 14 ∷ 7 ∷ 9 ∷ []
+  m2·nets : nets h2 ≡ pos 86 ∷ negsuc 56 ∷ negsuc 28 ∷ []
+  m3 : map (λ k. modulated (hourOf (hundred ∷ []) (1 ∷ 1 ∷ 1 ∷ []) (1 ∷ []) k) hundred) (1 ∷ 2 ∷ 3 ∷ []) ≡ 33 ∷ 33 ∷ 34 ∷ []
+  m4 : guaranteed (hourOf (small ∷ []) (1 ∷ []) (1 ∷ []) 1) small ≡ 87
+  m5 : allotment h5 ≡ 130 ∷ 0 ∷ 0 ∷ 0 ∷ 20 ∷ 0 ∷ 0 ∷ 0 ∷ 0 ∷ 30 ∷ 0 ∷ 0 ∷ []
+  m5·nets : nets h5 ≡ pos 0 ∷ pos 0 ∷ pos 0 ∷ []
+  -- left 1, 1, 0, 0, need 0, 0, 1, 1: 2 gives 3, then 1 gives 4
+  m6 : transferCall (1 ∷ 1 ∷ 0 ∷ 0 ∷ []) (0 ∷ 0 ∷ 1 ∷ 1 ∷ [])
+      ≡ record {
+        number = 0;
+        table = record { rows = (0 ∷ 0 ∷ 0 ∷ 1 ∷ []) ∷ (0 ∷ 0 ∷ 1 ∷ 0 ∷ []) ∷ (0 ∷ 0 ∷ 0 ∷ 0 ∷ []) ∷ (0 ∷ 0 ∷ 0 ∷ 0 ∷ []) ∷ [] };
+      }
+  m7 : sharingCall 0 (0 ∷ 0 ∷ []) (7 ∷ 7 ∷ []) ≡ record { number = 0; parts = 0 ∷ 0 ∷ [] }
+  m8 : sharingCall 1 (0 ∷ []) (7 ∷ []) ≡ record { number = 25; parts = 7 ∷ [] }
+
+pub worked : Worked
+unfolding rowwise sum every atMost joined totals transpose flatten _then_ firstNo inRange outcome parts share serve transfer apart sharingNumber sharingCall transferNumber transferCall hourOf modulated guaranteed portion own ownParts table got rest submarkets guarantees secondary covered deficit surplus leftOver rights ownCover coverGot ownSecondary secondaryGot coverTable secondaryTable figure nets allotment accountsOf accounts
+worked =
+    record {
+      m1 = refl;
+      m1·accounts = refl;
+      m1·covered = refl;
+      m2 = refl;
+      m2·secondary = refl;
+      m2·rights = refl;
+      m2·nets = refl;
+      m3 = refl;
+      m4 = refl;
+      m5 = refl;
+      m5·nets = refl;
+      m6 = refl;
+      m7 = refl;
+      m8 = refl;
+    }
+
+-- The file's month as a list of calls, with two that are refused: from a blank month and a ledger of ones
+abbrev three : List Plant
+three = plant 1 10 100 ∷ plant 1 11 50 ∷ plant 2 20 60 ∷ []
+
+abbrev start : State
+start =
+    record {
+      month = record { stage = Blank; plants = 0; periods = 0; tariff = 0; due = 0 };
+      ledger = record { allotted = replicate 12 1; accounts = replicate 6 (pos 1) };
+    }
+
+abbrev calls : List Call
+calls =
+    balances ∷ opens three (180 ∷ []) 1300 ∷ closes ∷ settles three (180 ∷ []) (130 ∷ 20 ∷ 30 ∷ []) (replicate 12 0) ∷ balances ∷ closes ∷ []
+
+pub record Listed : Type 0 where
+  numbers : map (λ (e : Entry). e .answered) (entries start calls) ≡ 21 ∷ 0 ∷ 20 ∷ 0 ∷ 0 ∷ 0 ∷ []
+  allotted : after start calls .ledger .allotted ≡ 85 ∷ 0 ∷ 0 ∷ 0 ∷ 43 ∷ 0 ∷ 0 ∷ 0 ∷ 22 ∷ 30 ∷ 0 ∷ 0 ∷ []
+  accounted : after start calls .ledger .accounts ≡ pos 45 ∷ pos 58500 ∷ negsuc 22 ∷ negsuc 29899 ∷ negsuc 21 ∷ negsuc 28599 ∷ []
+  settled : let s = after start (balances ∷ opens three (180 ∷ []) 1300 ∷ closes ∷ []) in
+      let r = settleCall (s .month) three (180 ∷ []) (130 ∷ 20 ∷ 30 ∷ []) (replicate 12 7) (s .ledger) in
+      let a = r .answer in
+      (a .secondary ≡ 0) × (a .guarantees ≡ 210) × (a .«secondary_table» .rows ≡ noTable)
+      × (a .«cover_table» .rows ≡ (0 ∷ 22 ∷ 0 ∷ 0 ∷ []) ∷ replicate 3 (replicate 4 0))
+      × (r .allotment ≡ 85 ∷ 0 ∷ 0 ∷ 0 ∷ 43 ∷ 0 ∷ 0 ∷ 0 ∷ 22 ∷ 30 ∷ 0 ∷ 0 ∷ [])
+  columns : let s = after start calls in balanceCall (s .month) (s .ledger) .columns ≡ 150 ∷ 30 ∷ 0 ∷ 0 ∷ []
+  month : after start calls .month ≡ record { stage = Closed; plants = 3; periods = 1; tariff = 1300; due = 2 }
+
+pub listed : Listed
+unfolding rowwise sum every atMost joined totals transpose flatten _then_ firstNo inRange outcome parts share serve transfer apart sharingNumber sharingCall transferNumber transferCall hourOf modulated guaranteed portion own ownParts table got rest submarkets guarantees secondary covered deficit surplus leftOver rights ownCover coverGot ownSecondary secondaryGot coverTable secondaryTable figure nets allotment accountsOf accounts column sumℤ isWithin inBounds zeros added posted isOpen isBlank sizesNumber placed numbered rowNumber rowsNumber lengthsNumber tablesNumber openNumber ownNumber meteredNumber boundsNumber settleNumber closeNumber balanceNumber openCall settleCall balanceCall closeCall number next after entries
+listed = record { numbers = refl; allotted = refl; accounted = refl; settled = (refl, refl, refl, refl, refl); columns = refl; month = refl }

@@ -1,0 +1,303 @@
+// The statement call and the sizing call (document 01, 'The file and its statement').
+use crate::Month;
+use crate::Sized;
+use crate::Stated;
+use crate::stages::is_blank;
+use hour::Plant;
+use questions::lengths_number;
+use questions::rows_number;
+ghost use mathlib.Core.Path.{_≡_};
+ghost use mathlib.Core.List.{List};
+ghost use Prim.Native.Nat.{_≤_};
+ghost use lib.ListN.{length};
+ghost use Rattle.hour.specs.declared.Plant.{Plant};
+ghost use Rattle.hour.specs.Table.{plantsOf, Equal};
+ghost use Rattle.records.specs.Records.{Held};
+ghost use Rattle.statement.specs.Statement.{roomFor};
+ghost use Rattle.month.specs.Statement.{dueNumber, sizingNumber, statementNumber, StatementEnd, statementCall, Sizing};
+
+// 21, then 2 and 3 for the month's own P and H, 13 of the rows lent, and 14, where H + 1 passes too.
+pub fn due_number(month: Month, rows: u64) -> u64
+    ensures { λ r. ⌜ r ≡ dueNumber month rows ⌝ }
+{
+    let stage = month.stage;
+    if is_blank(stage) {
+        return 21;
+    }
+    if month.plants < 1 {
+        return 2;
+    }
+    if 512 < month.plants {
+        return 2;
+    }
+    if month.periods < 1 {
+        return 3;
+    }
+    if 744 < month.periods {
+        return 3;
+    }
+    if rows != month.plants {
+        return 13;
+    }
+    if month.due < 1 {
+        return 14;
+    }
+    if month.periods + 1 < month.due {
+        return 14;
+    }
+    0
+}
+
+// What a sizing call asks: 21 to 14, then 5 to 8, 11, and 19 for the ledger at hand.
+pub fn sizing_number(
+    month: Month,
+    submarket: &[u64],
+    number: &[u64],
+    guarantee: &[u64],
+    loss: &[u64],
+    availability: &[u64],
+    allotted: &[u64],
+    accounts: &[i64],
+) -> u64
+    requires { ⌜ Equal (length (now submarket)) (now number) (now guarantee) (now loss) (now availability) ⌝ }
+    ensures { λ r. ⌜ r ≡ sizingNumber month (plantsOf (now (submarket .entry)) (now (number .entry)) (now (guarantee .entry)) (now (loss .entry)) (now (availability .entry))) (record { allotted = now (allotted .entry); accounts = now (accounts .entry) }) ⌝ }
+{
+    let no = due_number(month, submarket.len() as u64);
+    if no != 0 {
+        return no;
+    }
+    let no = rows_number(submarket, number, guarantee, loss, availability);
+    if no != 0 {
+        return no;
+    }
+    let no = lengths_number(month.plants, allotted, accounts);
+    if no != 0 {
+        return no;
+    }
+    if !ledger::in_bounds(allotted, accounts) {
+        return 19;
+    }
+    0
+}
+
+// The bytes that 22 asks for, with P in limits.
+pub fn room_for(plants: u64) -> u64
+    requires { ⌜ plants ≤ 512 ⌝ }
+    ensures { λ r. ⌜ r ≡ roomFor plants ⌝ }
+{
+    128 * plants + 128
+}
+
+// What the statement call asks: as a sizing call, then 22 of the bytes lent.
+pub fn statement_number(
+    month: Month,
+    submarket: &[u64],
+    number: &[u64],
+    guarantee: &[u64],
+    loss: &[u64],
+    availability: &[u64],
+    allotted: &[u64],
+    accounts: &[i64],
+    lent: u64,
+) -> u64
+    requires { ⌜ Equal (length (now submarket)) (now number) (now guarantee) (now loss) (now availability) ⌝ }
+    ensures { λ r. ⌜ r ≡ statementNumber month (plantsOf (now (submarket .entry)) (now (number .entry)) (now (guarantee .entry)) (now (loss .entry)) (now (availability .entry))) (record { allotted = now (allotted .entry); accounts = now (accounts .entry) }) lent ⌝ }
+{
+    let no = sizing_number(
+        month,
+        submarket,
+        number,
+        guarantee,
+        loss,
+        availability,
+        allotted,
+        accounts,
+    );
+    if no != 0 {
+        return no;
+    }
+    if lent < room_for(month.plants) {
+        return 22;
+    }
+    0
+}
+
+impl Month {
+    // The statement fills the front of the lent bytes and answers its length; the rest stays. The plant table comes as five columns, equally long.
+    pub fn statement_columns(
+        mut self,
+        submarket: &[u64],
+        number: &[u64],
+        guarantee: &[u64],
+        loss: &[u64],
+        availability: &[u64],
+        allotted: &[u64],
+        accounts: &[i64],
+        bytes: &mut [u8],
+    ) -> Stated
+        requires { ⌜ Equal (length (now submarket)) (now number) (now guarantee) (now loss) (now availability) ⌝ }
+        ensures { λ r. ⌜ _≡_ {A = StatementEnd} (record { answer = r; bytes = now (bytes .exit) }) (statementCall self (plantsOf (now (submarket .entry)) (now (number .entry)) (now (guarantee .entry)) (now (loss .entry)) (now (availability .entry))) (record { allotted = now (allotted .entry); accounts = now (accounts .entry) }) (now (bytes .entry))) ⌝ }
+    {
+        let no = statement_number(
+            self,
+            submarket,
+            number,
+            guarantee,
+            loss,
+            availability,
+            allotted,
+            accounts,
+            bytes.len() as u64,
+        );
+        if no != 0 {
+            return Stated {
+                number: no,
+                month: self,
+                length: 0,
+            };
+        }
+        let settled = self.due - 1;
+        let written = statement::writing::write_statement(
+            settled,
+            submarket,
+            number,
+            allotted,
+            accounts,
+            bytes,
+        );
+        Stated {
+            number: 0,
+            month: self,
+            length: written as u64,
+        }
+    }
+
+    // A size with which the statement is never refused for want of bytes. The plant table comes as five columns, equally long.
+    pub fn size_columns(
+        mut self,
+        submarket: &[u64],
+        number: &[u64],
+        guarantee: &[u64],
+        loss: &[u64],
+        availability: &[u64],
+        allotted: &[u64],
+        accounts: &[i64],
+    ) -> Sized
+        requires { ⌜ Equal (length (now submarket)) (now number) (now guarantee) (now loss) (now availability) ⌝ }
+        ensures { λ r. ⌜ Sizing self (plantsOf (now (submarket .entry)) (now (number .entry)) (now (guarantee .entry)) (now (loss .entry)) (now (availability .entry))) (record { allotted = now (allotted .entry); accounts = now (accounts .entry) }) r ⌝ }
+    {
+        let no = sizing_number(
+            self,
+            submarket,
+            number,
+            guarantee,
+            loss,
+            availability,
+            allotted,
+            accounts,
+        );
+        if no != 0 {
+            return Sized {
+                number: no,
+                month: self,
+                size: 0,
+            };
+        }
+        let size = room_for(self.plants);
+        Sized {
+            number: 0,
+            month: self,
+            size,
+        }
+    }
+
+    // The statement on the columns of n records. With more than 512 nothing of them is asked or read but their number.
+    pub fn statement_table(
+        self,
+        n: usize,
+        c: [u64; 2560],
+        allotted: &[u64],
+        accounts: &[i64],
+        bytes: &mut [u8],
+    ) -> Stated
+        ensures { λ r. ⌜ ((plants : List Plant) → Held plants n c → _≡_ {A = StatementEnd} (record { answer = r; bytes = now (bytes .exit) }) (statementCall self plants (record { allotted = now (allotted .entry); accounts = now (accounts .entry) }) (now (bytes .entry)))) ⌝ }
+    {
+        if 512 < n {
+            let no = due_number(self, n as u64);
+            return Stated {
+                number: no,
+                month: self,
+                length: 0,
+            };
+        }
+        let all = &c[..];
+        let submarket = records::column(all, 0, n);
+        let number = records::column(all, 1, n);
+        let guarantee = records::column(all, 2, n);
+        let loss = records::column(all, 3, n);
+        let availability = records::column(all, 4, n);
+        self.statement_columns(
+            submarket,
+            number,
+            guarantee,
+            loss,
+            availability,
+            allotted,
+            accounts,
+            bytes,
+        )
+    }
+
+    // The size on the columns of n records. With more than 512 nothing of them is asked or read but their number.
+    pub fn size_table(self, n: usize, c: [u64; 2560], allotted: &[u64], accounts: &[i64]) -> Sized
+        ensures { λ r. ⌜ ((plants : List Plant) → Held plants n c → Sizing self plants (record { allotted = now (allotted .entry); accounts = now (accounts .entry) }) r) ⌝ }
+    {
+        if 512 < n {
+            let no = due_number(self, n as u64);
+            return Sized {
+                number: no,
+                month: self,
+                size: 0,
+            };
+        }
+        let all = &c[..];
+        let submarket = records::column(all, 0, n);
+        let number = records::column(all, 1, n);
+        let guarantee = records::column(all, 2, n);
+        let loss = records::column(all, 3, n);
+        let availability = records::column(all, 4, n);
+        self.size_columns(
+            submarket,
+            number,
+            guarantee,
+            loss,
+            availability,
+            allotted,
+            accounts,
+        )
+    }
+
+    // The statement fills the front of the lent bytes and answers its length; the rest stays. The plant table is one lent list of records.
+    pub fn statement(
+        mut self,
+        plants: &[Plant],
+        allotted: &[u64],
+        accounts: &[i64],
+        bytes: &mut [u8],
+    ) -> Stated
+        ensures { λ r. ⌜ _≡_ {A = StatementEnd} (record { answer = r; bytes = now (bytes .exit) }) (statementCall self (now (plants .entry)) (record { allotted = now (allotted .entry); accounts = now (accounts .entry) }) (now (bytes .entry))) ⌝ }
+    {
+        let n = plants.len();
+        let c = records::columns(plants);
+        self.statement_table(n, c, allotted, accounts, bytes)
+    }
+
+    // A size with which the statement is never refused for want of bytes. The plant table is one lent list of records.
+    pub fn statement_size(mut self, plants: &[Plant], allotted: &[u64], accounts: &[i64]) -> Sized
+        ensures { λ r. ⌜ Sizing self (now (plants .entry)) (record { allotted = now (allotted .entry); accounts = now (accounts .entry) }) r ⌝ }
+    {
+        let n = plants.len();
+        let c = records::columns(plants);
+        self.size_table(n, c, allotted, accounts)
+    }
+}

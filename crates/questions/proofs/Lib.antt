@@ -1,0 +1,3 @@
+-- The rows' questions, and what answered questions tell.
+pub mod Rows
+pub mod Asked

@@ -1,0 +1,13 @@
+-- `questions::in_range` meets its contract. Assumes nothing.
+use Rattle.lists.specs.Questions.{inRange}
+use Rattle.lists.proofs.Questions.{tests}
+use Rattle.questions.proofs.in_range.Statement.{statement}
+use Rattle.questions.proofs.in_range.Tie as tie
+
+pub in-range-spec : {M : Type 1} → statement M
+unfolding inRange
+in-range-spec =
+    tie.close
+    (tie.spec
+    (λ c. search tests)
+    (λ c. search tests))

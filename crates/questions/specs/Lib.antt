@@ -1,0 +1,2 @@
+-- Document 01, 'The questions', 2 to 11.
+pub mod Questions

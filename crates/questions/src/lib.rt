@@ -1,0 +1,178 @@
+// Questions 2 to 11, which several calls put (document 01, 'The questions'): each function answers the number of its definition.
+ghost use mathlib.Core.Path.{_≡_};
+ghost use mathlib.Core.Bool.{true};
+ghost use Prim.Native.Nat.{_*_, _^_, _≤_};
+ghost use lib.ListN.{length};
+ghost use Rattle.lists.specs.Lists.{sum, atMost};
+ghost use Rattle.lists.specs.Questions.{inRange};
+ghost use Rattle.hour.specs.Table.{plantsOf, Equal};
+ghost use Rattle.questions.specs.Questions.{sizesNumber, placed, numbered, rowNumber, rowsNumber, lengthsNumber, tablesNumber};
+
+// The most that a profile figure or a metered figure can be, in kWh.
+pub const MOST: u64 = 2000000000;
+
+// 2, 3 and 4: P, H and TEO in limits.
+pub fn sizes_number(plants: u64, periods: u64, tariff: u64) -> u64
+    ensures { λ r. ⌜ r ≡ sizesNumber plants periods tariff ⌝ }
+{
+    if plants < 1 {
+        return 2;
+    }
+    if 512 < plants {
+        return 2;
+    }
+    if periods < 1 {
+        return 3;
+    }
+    if 744 < periods {
+        return 3;
+    }
+    if 10000 < tariff {
+        return 4;
+    }
+    0
+}
+
+// Is a figure from low up to high?
+pub fn in_range(low: u64, high: u64, figure: u64) -> bool
+    ensures { λ r. ⌜ r ≡ inRange low high figure ⌝ }
+{
+    low <= figure && figure <= high
+}
+
+// 5: submarket 1 to 4, and not below that of the row above.
+pub fn is_placed(submarket_above: u64, submarket: u64) -> bool
+    ensures { λ r. ⌜ r ≡ placed «submarket_above» submarket ⌝ }
+{
+    in_range(1, 4, submarket) && submarket_above <= submarket
+}
+
+// 6: number in limits and, in the same submarket, above that of the row above.
+pub fn is_numbered(submarket_above: u64, number_above: u64, submarket: u64, number: u64) -> bool
+    ensures { λ r. ⌜ r ≡ numbered «submarket_above» «number_above» submarket number ⌝ }
+{
+    in_range(1, 999999, number) && (submarket != submarket_above || number_above < number)
+}
+
+// 5 to 8 of a row, after the row above.
+pub fn row_number(
+    submarket_above: u64,
+    number_above: u64,
+    submarket: u64,
+    number: u64,
+    guarantee: u64,
+    loss: u64,
+    availability: u64,
+) -> u64
+    ensures { λ r. ⌜ r ≡ rowNumber «submarket_above» «number_above» (record { submarket = submarket; number = number; guarantee = guarantee; loss = loss; availability = availability }) ⌝ }
+{
+    if !is_placed(submarket_above, submarket) {
+        return 5;
+    }
+    if !is_numbered(submarket_above, number_above, submarket, number) {
+        return 6;
+    }
+    if 1000000000000 < guarantee {
+        return 7;
+    }
+    if 1000000 < loss {
+        return 8;
+    }
+    if 1000000 < availability {
+        return 8;
+    }
+    0
+}
+
+// 5 to 8, going down the rows.
+pub fn rows_number(
+    submarket: &[u64],
+    number: &[u64],
+    guarantee: &[u64],
+    loss: &[u64],
+    availability: &[u64],
+) -> u64
+    requires { ⌜ Equal (length (now submarket)) (now number) (now guarantee) (now loss) (now availability) ⌝ }
+    ensures { λ r. ⌜ r ≡ rowsNumber 0 0 (plantsOf (now (submarket .entry)) (now (number .entry)) (now (guarantee .entry)) (now (loss .entry)) (now (availability .entry))) ⌝ }
+{
+    let mut submarket_above: u64 = 0;
+    let mut number_above: u64 = 0;
+    let mut i: usize = 0;
+    while i < submarket.len() {
+        let s = submarket[i];
+        let n = number[i];
+        let no = row_number(
+            submarket_above,
+            number_above,
+            s,
+            n,
+            guarantee[i],
+            loss[i],
+            availability[i],
+        );
+        if no != 0 {
+            return no;
+        }
+        submarket_above = s;
+        number_above = n;
+        i += 1;
+    }
+    0
+}
+
+// The sum of figures in limits, of a profile or of a metered list.
+pub fn total(figures: &[u64]) -> u64
+    requires { ⌜ (length (now figures) ≤ 744) × (atMost (2 * 10 ^ 9) (now figures) ≡ true) ⌝ }
+    ensures { λ r. ⌜ r ≡ sum (now (figures .entry)) ⌝ }
+{
+    let mut sum: u64 = 0;
+    let mut i: usize = 0;
+    while i < figures.len() {
+        sum += figures[i];
+        i += 1;
+    }
+    sum
+}
+
+// 11: ledger lists of exactly 4P and 2P, for P in limits.
+pub fn lengths_number(plants: u64, allotted: &[u64], accounts: &[i64]) -> u64
+    requires { ⌜ plants ≤ 512 ⌝ }
+    ensures { λ r. ⌜ r ≡ lengthsNumber plants (record { allotted = now (allotted .entry); accounts = now (accounts .entry) }) ⌝ }
+{
+    if allotted.len() as u64 != 4 * plants {
+        return 11;
+    }
+    if accounts.len() as u64 != 2 * plants {
+        return 11;
+    }
+    0
+}
+
+// 5 to 11, for P and H in limits.
+pub fn tables_number(
+    plants: u64,
+    submarket: &[u64],
+    number: &[u64],
+    guarantee: &[u64],
+    loss: &[u64],
+    availability: &[u64],
+    profile: &[u64],
+    allotted: &[u64],
+    accounts: &[i64],
+) -> u64
+    requires { ⌜ Equal (length (now submarket)) (now number) (now guarantee) (now loss) (now availability) ⌝ }
+    requires { ⌜ (plants ≤ 512) × (length (now profile) ≤ 744) ⌝ }
+    ensures { λ r. ⌜ r ≡ tablesNumber plants (plantsOf (now (submarket .entry)) (now (number .entry)) (now (guarantee .entry)) (now (loss .entry)) (now (availability .entry))) (now (profile .entry)) (record { allotted = now (allotted .entry); accounts = now (accounts .entry) }) ⌝ }
+{
+    let no = rows_number(submarket, number, guarantee, loss, availability);
+    if no != 0 {
+        return no;
+    }
+    if !lists::at_most(MOST, profile) {
+        return 9;
+    }
+    if total(profile) == 0 {
+        return 10;
+    }
+    lengths_number(plants, allotted, accounts)
+}

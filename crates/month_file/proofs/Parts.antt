@@ -151,6 +151,44 @@ pub record Alike (line₀ figures₀ allotment₀ : List ℕ) (k₀ : Kept) (lin
   pub allotted : length (k .allotted) ≡ length (k₀ .allotted)
   pub accounts : length (k .accounts) ≡ length (k₀ .accounts)
 
+pub alike-self : {line figures allotment : List ℕ} {k : Kept} → Alike line figures allotment k line figures allotment k
+alike-self =
+    record {
+      bytes = refl;
+      places = refl;
+      fours = refl;
+      submarket = refl;
+      number = refl;
+      guarantee = refl;
+      loss = refl;
+      availability = refl;
+      profile = refl;
+      allotted = refl;
+      accounts = refl;
+    }
+
+module _ {line₀ figures₀ allotment₀ : List ℕ} {k₀ : Kept} {line figures allotment : List ℕ} {k : Kept} {line₁ figures₁ allotment₁ : List ℕ} {k₁ : Kept} where
+  pub alike-more : Alike line₀ figures₀ allotment₀ k₀ line figures allotment k → Alike line figures allotment k line₁ figures₁ allotment₁ k₁
+      → Alike line₀ figures₀ allotment₀ k₀ line₁ figures₁ allotment₁ k₁
+  alike-more a s =
+      record {
+        bytes = s .bytes ∙ a .bytes;
+        places = s .places ∙ a .places;
+        fours = s .fours ∙ a .fours;
+        submarket = s .submarket ∙ a .submarket;
+        number = s .number ∙ a .number;
+        guarantee = s .guarantee ∙ a .guarantee;
+        loss = s .loss ∙ a .loss;
+        availability = s .availability ∙ a .availability;
+        profile = s .profile ∙ a .profile;
+        allotted = s .allotted ∙ a .allotted;
+        accounts = s .accounts ∙ a .accounts;
+      }
+
+pub room-alike : {line figures allotment : List ℕ} {k : Kept} {line₁ figures₁ allotment₁ : List ℕ} {k₁ : Kept} → WorkLists line figures allotment
+    → Alike line figures allotment k line₁ figures₁ allotment₁ k₁ → WorkLists line₁ figures₁ allotment₁
+room-alike w s = record { bytes = omega (arith, w .bytes, s .bytes); places = s .places ∙ w .places; fours = omega (arith, w .fours, s .fours) }
+
 -- a loop that has taken a part up to a byte
 pub record Feeding (part line₀ figures₀ allotment₀ : List ℕ) (k₀ : Kept) (f₀ : MonthFile) (line figures allotment : List ℕ) (k : Kept) (f : MonthFile) (at : ℕ) : Type 0 where
   pub high : at ≤ length part
@@ -165,19 +203,7 @@ module _ {part line₀ figures₀ allotment₀ : List ℕ} {k₀ : Kept} {f₀ :
       record {
         high = omega arith;
         room = w;
-        alike = record {
-          bytes = refl;
-          places = refl;
-          fours = refl;
-          submarket = refl;
-          number = refl;
-          guarantee = refl;
-          loss = refl;
-          availability = refl;
-          profile = refl;
-          allotted = refl;
-          accounts = refl;
-        };
+        alike = alike-self;
         valid = v;
         same = refl;
       }
@@ -188,20 +214,8 @@ module _ {part line₀ figures₀ allotment₀ : List ℕ} {k₀ : Kept} {f₀ :
     feeding-more a s =
         record {
           high = a .high;
-          room = record { bytes = omega (arith, c .room .bytes, s .bytes); places = s .places ∙ c .room .places; fours = omega (arith, c .room .fours, s .fours) };
-          alike = record {
-            bytes = s .bytes ∙ c .alike .bytes;
-            places = s .places ∙ c .alike .places;
-            fours = s .fours ∙ c .alike .fours;
-            submarket = s .submarket ∙ c .alike .submarket;
-            number = s .number ∙ c .alike .number;
-            guarantee = s .guarantee ∙ c .alike .guarantee;
-            loss = s .loss ∙ c .alike .loss;
-            availability = s .availability ∙ c .alike .availability;
-            profile = s .profile ∙ c .alike .profile;
-            allotted = s .allotted ∙ c .alike .allotted;
-            accounts = s .accounts ∙ c .alike .accounts;
-          };
+          room = room-alike (c .room) s;
+          alike = alike-more (c .alike) s;
           valid = a .valid;
           same = c .same ∙ a .same;
         }

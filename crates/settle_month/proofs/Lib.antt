@@ -1,0 +1,2 @@
+-- Laws of what the program takes from its input.
+pub mod Parts

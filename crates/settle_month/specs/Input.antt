@@ -1,0 +1,23 @@
+-- What no contract can say is which bytes standard input holds. Whatever parts were read, they are fed in order, each once, and what is printed is
+-- what the file's definition prints for their bytes. Assumes nothing.
+use mathlib.Core.Path.{_≡_}
+use mathlib.Core.List.{List, flatten}
+use Prim.Native.Nat.{ℕ}
+use Rattle.statement.specs.Writing.{Fills}
+use Rattle.month_file.specs.declared.MonthFile.{MonthFile}
+use Rattle.month_file.specs.File.{settledFile}
+use Rattle.month_file.specs.Machine.{Kept}
+use Rattle.month_file.specs.Run.{Place, Feeds}
+
+abbrev pub place : MonthFile → Kept → List ℕ → Place
+place f k line = record { file = f; lists = k; line = line }
+
+-- some parts were fed, one after another
+pub record Taken (a b : Place) : Type 0 where
+  pub parts : List (List ℕ)
+  pub fed : Feeds a parts b
+
+-- nothing was written, and 0 answered; or the text of some parts' bytes stands at the front, and its length is answered
+pub data Settled (before : List ℕ) (answer : ℕ) (after : List ℕ) : Type 0 where
+  unread : answer ≡ 0 → after ≡ before → Settled before answer after
+  written : (parts : List (List ℕ)) → Fills (settledFile (flatten parts)) before answer after → Settled before answer after

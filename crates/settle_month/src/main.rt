@@ -1,0 +1,178 @@
+// `settle-month`: reads a month file from standard input and writes its statement, or the refusal, to standard output (document 01, 'The file
+// and its statement'). All that it keeps lies in arrays of `main`.
+use libc::STDERR_FILENO;
+use libc::STDIN_FILENO;
+use libc::STDOUT_FILENO;
+use month_file::MonthFile;
+use month_file::beginning::fresh;
+use month_file::feeding::feed;
+use month_file::finishing::finish;
+ghost use mathlib.Core.Path.{_≡_};
+ghost use mathlib.Core.Bool.{true};
+ghost use Prim.Native.Nat.{_*_, _+_, _≤_};
+ghost use lib.ListN.{length};
+ghost use Rattle.month_file.specs.Machine.{kept, Lent, Valid, WorkLists};
+ghost use Rattle.settle_month.specs.Input.{place, Taken, Settled};
+
+// What was read: the state, and whether the input came to its end.
+struct Input {
+    file: MonthFile,
+    whole: bool,
+}
+
+// Feeds what standard input holds, part by part, to its end. Nothing says that an input ends, so the turns are counted down, from a number that
+// no run uses up.
+fn take_input(
+    file: MonthFile,
+    part: &mut [u8],
+    line: &mut [u8],
+    figures: &mut [u64],
+    submarket: &mut [u64],
+    number: &mut [u64],
+    guarantee: &mut [u64],
+    loss: &mut [u64],
+    availability: &mut [u64],
+    profile: &mut [u64],
+    allotment: &mut [u64],
+    allotted: &mut [u64],
+    accounts: &mut [i64],
+) -> Input
+    requires { ⌜ WorkLists (now line) (now figures) (now allotment) ⌝ }
+    requires { ⌜ Valid file (kept (now submarket) (now number) (now guarantee) (now loss) (now availability) (now profile) (now allotted) (now accounts)) ⌝ }
+    ensures { λ r. ⌜ Taken (place file (kept (now (submarket .entry)) (now (number .entry)) (now (guarantee .entry)) (now (loss .entry)) (now (availability .entry)) (now (profile .entry)) (now (allotted .entry)) (now (accounts .entry))) (now (line .entry))) (place (r .file) (kept (now (submarket .exit)) (now (number .exit)) (now (guarantee .exit)) (now (loss .exit)) (now (availability .exit)) (now (profile .exit)) (now (allotted .exit)) (now (accounts .exit))) (now (line .exit))) ⌝ }
+{
+    let mut f = file;
+    let mut turns = u64::MAX;
+    while turns > 0 {
+        let got = libc::read(STDIN_FILENO, part);
+        if got < 0 {
+            return Input {
+                file: f,
+                whole: false,
+            };
+        }
+        let n = io::count(got, part);
+        if n == 0 {
+            return Input {
+                file: f,
+                whole: true,
+            };
+        }
+        f = feed(
+            f,
+            &part[..n],
+            line,
+            figures,
+            submarket,
+            number,
+            guarantee,
+            loss,
+            availability,
+            profile,
+            allotment,
+            allotted,
+            accounts,
+        );
+        turns -= 1;
+    }
+    Input {
+        file: f,
+        whole: false,
+    }
+}
+
+// Settles the file on standard input: what is to be printed stands at the front of the text. Answers its length, or 0 where the input cannot be
+// read to its end.
+fn settle_input(
+    part: &mut [u8],
+    line: &mut [u8],
+    figures: &mut [u64],
+    submarket: &mut [u64],
+    number: &mut [u64],
+    guarantee: &mut [u64],
+    loss: &mut [u64],
+    availability: &mut [u64],
+    profile: &mut [u64],
+    allotment: &mut [u64],
+    allotted: &mut [u64],
+    accounts: &mut [i64],
+    text: &mut [u8],
+) -> usize
+    requires { ⌜ WorkLists (now line) (now figures) (now allotment) × (128 * 512 + 128 ≤ length (now text)) ⌝ }
+    requires { ⌜ Lent (kept (now submarket) (now number) (now guarantee) (now loss) (now availability) (now profile) (now allotted) (now accounts)) ⌝ }
+    ensures { λ r. ⌜ Settled (now (text .entry)) r (now (text .exit)) ⌝ }
+{
+    let file = fresh();
+    let input = take_input(
+        file,
+        part,
+        line,
+        figures,
+        submarket,
+        number,
+        guarantee,
+        loss,
+        availability,
+        profile,
+        allotment,
+        allotted,
+        accounts,
+    );
+    if !input.whole {
+        return 0;
+    }
+    let end = input.file;
+    finish(
+        end,
+        line,
+        figures,
+        submarket,
+        number,
+        guarantee,
+        loss,
+        availability,
+        profile,
+        allotted,
+        accounts,
+        text,
+    )
+}
+
+fn main() {
+    let mut part = [0u8; 65536];
+    let mut line = [0u8; 8192];
+    let mut figures = [0u64; 513];
+    let mut submarket = [0u64; 512];
+    let mut number = [0u64; 512];
+    let mut guarantee = [0u64; 512];
+    let mut loss = [0u64; 512];
+    let mut availability = [0u64; 512];
+    let mut profile = [0u64; 744];
+    let mut allotment = [0u64; 2048];
+    let mut allotted = [0u64; 2048];
+    let mut accounts = [0i64; 1024];
+    let mut text = [0u8; 65664];
+    let length = settle_input(
+        &mut part,
+        &mut line,
+        &mut figures,
+        &mut submarket,
+        &mut number,
+        &mut guarantee,
+        &mut loss,
+        &mut availability,
+        &mut profile,
+        &mut allotment,
+        &mut allotted,
+        &mut accounts,
+        &mut text,
+    );
+    if length == 0 {
+        io::write_all(
+            STDERR_FILENO,
+            b"settle-month: standard input cannot be read\n",
+        );
+        return;
+    }
+    io::write_all(STDOUT_FILENO, &text[..length]);
+}

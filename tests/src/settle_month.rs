@@ -16,7 +16,8 @@ extern "C" {
 
 const CLOSE_ON_EXEC: i32 = 0o2000000;
 
-/// Every write is one packet of at most 4,096 bytes, and a read takes one packet.
+/// Every write is one packet of at most 4,096 bytes, and a read takes one packet. What a shorter read leaves of its packet
+/// is lost: the program reads up to 65,536 bytes.
 const PACKETS: i32 = 0o40000;
 
 /// How the file arrives at standard input.

@@ -3,7 +3,7 @@
 
 use crate::count::Count;
 use crate::program as second_program;
-use crate::settle_month::{pipe, program, root};
+use crate::settle_month::{kept, pipe, printed, program, root, Arrival};
 use std::fs::{File, OpenOptions};
 use std::io::{Read as _, Write as _};
 use std::os::fd::AsRawFd as _;
@@ -20,6 +20,9 @@ const SET_PIPE_SIZE: i32 = 1031;
 const UNREADABLE: &str = "settle-month: standard input cannot be read\n";
 const SIGPIPE: i32 = 13;
 
+/// Bytes of an input that is far longer than any month file.
+const LONG: usize = 64 << 20;
+
 /// Its own memory at most, in kB: what is not of a file, as the C library is. 01 has P and H at most 512 and 744.
 const OWN: u64 = 1024;
 
@@ -29,6 +32,7 @@ const FASTER: f64 = 5.0;
 pub fn run(count: &mut Count) {
     unreadable(count);
     unwritable(count);
+    long(count);
     let full = second_program::generated(1, "month-full");
     memory(count, &full);
     speed(count, &full);
@@ -73,6 +77,22 @@ fn unwritable(count: &mut Count) {
     let status = program().stdin(example()).stdout(unread()).status().expect("settle-month starts");
     count.case(status.signal() == Some(SIGPIPE), || format!("the reader gone: {}", status));
     count.tried("the reader gone, SIGPIPE as usual: ended by SIGPIPE");
+}
+
+/// An input of any length is read to its end, and its first fault is printed.
+fn long(count: &mut Count) {
+    let example = kept("examples/month.mre");
+    let after = [&example[..], &b"\n".repeat(LONG)].concat();
+    for (what, file, wanted) in [
+        ("one line without an end", vec![b'7'; LONG], "R,1,26\n"),
+        ("empty lines", vec![b'\n'; LONG], "R,1,27\n"),
+        ("empty lines after the last G", after, "R,7,27\n"),
+    ] {
+        let ours = printed(&file, Arrival::Whole).map(|bytes| bytes.escape_ascii().to_string());
+        let wanted = wanted.as_bytes().escape_ascii().to_string();
+        count.case(ours.as_ref() == Ok(&wanted), || format!("{}: {:?}, wanted {}", what, ours, wanted));
+        count.tried(format!("{}, {} bytes: {}", what, file.len(), wanted));
+    }
 }
 
 /// The writing end of a pipe that nobody reads.

@@ -1,4 +1,4 @@
--- What the contracts of inner functions say. No public promise rests on these. Assumes nothing.
+-- What the contracts of the functions below the calls say. Free: the position where there is no such field. Assumes nothing.
 use mathlib.Core.Path.{_≡_}
 use mathlib.Core.Bool.{Bool, cond}
 use mathlib.Core.List.{List, [], _++_, map}

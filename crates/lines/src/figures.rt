@@ -53,17 +53,6 @@ fn magnitude(z: i64) -> u64
     z as u64
 }
 
-// How many bytes the signed figure takes.
-pub fn signed_figure_length(z: i64) -> usize
-    ensures { λ r. ⌜ r ≡ signedFigureLength z ⌝ }
-{
-    let length = figure_length(magnitude(z));
-    if z < 0 {
-        return 1 + length;
-    }
-    length
-}
-
 // Writes the signed figure from a position on, and answers the position behind it.
 pub fn write_signed_figure(z: i64, text: &mut [u8], at: usize) -> usize
     requires { ⌜ at + signedFigureLength z ≤ length (now text) ⌝ }

@@ -198,7 +198,7 @@ fn refused(number: u64) -> Line
 }
 
 // Reads a line over a list of its own, to which the figures go first: so a refusal leaves the lent list as it was.
-pub fn read_over(line: &[u8], own: &mut [u64], figures: &mut [u64]) -> Line
+fn read_over(line: &[u8], own: &mut [u64], figures: &mut [u64]) -> Line
     requires { ⌜ length (now own) ≡ 513 ⌝ }
     ensures { λ r. ⌜ _≡_ {A = ReadEnd} (record { answer = r; figures = now (figures .exit) }) (readCall (now (line .entry)) (now (figures .entry))) ⌝ }
 {

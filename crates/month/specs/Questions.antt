@@ -1,12 +1,12 @@
 -- "The questions, in the order they are put": the number that each call answers. Assumes nothing.
 use Prim.Native.Nat.{ℕ, _+_, _*_, _^_}
-use mathlib.Core.Bool.{Bool, true, false, not, _&&_, _||_}
+use mathlib.Core.Bool.{Bool, true, false, not, _&&_}
 use mathlib.Core.List.{List, [], _∷_}
 use lib.Dec.{leb, ltb, eqb}
 use lib.ListN.{length}
 use Rattle.lists.specs.Lists.{sum, atMost}
 use Rattle.lists.specs.Columns.{at}
-use Rattle.lists.specs.Questions.{_⁇_, part, _then_, firstNo, inRange}
+use Rattle.lists.specs.Questions.{_⁇_, part, firstNo, inRange}
 use Rattle.hour.specs.declared.Plant.{Plant}
 use Rattle.hour.specs.Hour.{Hour, hourOf, allotment, accounts}
 use Rattle.ledger.specs.Ledger.{Ledger, inBounds, added}

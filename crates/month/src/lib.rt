@@ -62,7 +62,7 @@ pub struct Stated {
     pub length: u64,
 }
 
-// What the sizing call answers: its number, the month handed back, and as many bytes as the statement call asks for.
+// What the sizing call answers: its number, the month handed back, and a size that the statement does not pass, at most 128P + 128.
 pub struct Sized {
     pub number: u64,
     pub month: Month,

@@ -172,7 +172,7 @@ impl Month {
         }
     }
 
-    // A size with which the statement is never refused for want of bytes. The plant table comes as five columns, equally long.
+    // A size that the statement does not pass, at most 128P + 128. The plant table comes as five columns, equally long.
     pub fn size_columns(
         mut self,
         submarket: &[u64],
@@ -292,7 +292,7 @@ impl Month {
         self.statement_table(n, c, allotted, accounts, bytes)
     }
 
-    // A size with which the statement is never refused for want of bytes. The plant table is one lent list of records.
+    // A size that the statement does not pass, at most 128P + 128. The plant table is one lent list of records.
     pub fn statement_size(mut self, plants: &[Plant], allotted: &[u64], accounts: &[i64]) -> Sized
         ensures { λ r. ⌜ Sizing self (now (plants .entry)) (record { allotted = now (allotted .entry); accounts = now (accounts .entry) }) r ⌝ }
     {

@@ -10,3 +10,6 @@ pub mod Taken
 pub mod Parts
 pub mod Ends
 pub mod Run
+pub mod Followed
+pub mod Metered
+pub mod Sums

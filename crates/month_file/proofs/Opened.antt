@@ -41,7 +41,7 @@ open-alike : (m : Month) (plants : List Plant) (profile : List ℕ) (t : ℕ) (l
 unfolding openNumber tablesNumber lengthsNumber
 open-alike m plants profile t l g p q = rw (p, q)
 
-open-number : (m : Month) (plants : List Plant) (profile : List ℕ) (t : ℕ) (l : Ledger) → openCall m plants profile t l .answer .number ≡ openNumber m plants profile t l
+pub open-number : (m : Month) (plants : List Plant) (profile : List ℕ) (t : ℕ) (l : Ledger) → openCall m plants profile t l .answer .number ≡ openNumber m plants profile t l
 unfolding openCall
 open-number m plants profile t l = outcome-part (λ (r : OpenEnd). r .answer .number) (openNumber m plants profile t l) _ _ ∙ number-itself _
 

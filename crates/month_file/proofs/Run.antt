@@ -1,18 +1,14 @@
 -- The machine over a whole file. Assumes nothing.
-use mathlib.Core.Path.{_≡_, refl, sym, ap, subst, _∙_}
-use mathlib.Core.Bool.{Bool, true, false, cond}
-use mathlib.Core.List.{List, [], _∷_, flatten}
-use Prim.Native.Nat.{ℕ, zero, suc, _+_, _-_}
+use mathlib.Core.Path.{_≡_, refl, ap, subst, _∙_}
+use mathlib.Core.List.{List, _∷_, flatten}
+use Prim.Native.Nat.{ℕ}
 use native.Mathlib.Omega.{arith}
-use lib.Dec.{eqb}
-use Rattle.lists.specs.Questions.{outcome}
-use Rattle.month.specs.Calls.{closeCall}
 use Rattle.statement.specs.Writing.{Fills}
 use Rattle.month_file.specs.declared.MonthFile.{MonthFile}
-use Rattle.month_file.specs.File.{FileLine, lines, Progress, begins, gathers, settles, refuses, blank, next, refusal, printed, following, settledFile}
-use Rattle.month_file.specs.Bytes.{Reading, fedParts, start, finished}
+use Rattle.month_file.specs.File.{settledFile}
+use Rattle.month_file.specs.Bytes.{Reading, fedParts, finished}
 use Rattle.month_file.specs.Machine.{Kept, progressOf, readingOf, Lent, Valid, Fresh, Fed}
-use Rattle.month_file.specs.Run.{Place, Feeds, none, more, Printed, statement, refused, Promised}
+use Rattle.month_file.specs.Run.{Place, Feeds, none, more, Promised}
 use Rattle.month_file.proofs.Bytes as bytes
 
 abbrev readAt : Place → Reading
@@ -33,36 +29,8 @@ feeds-written {parts = parts} {before} {n} {after} s r h =
     subst (λ (t : List ℕ). Fills t before n after)
     (ap finished (feeds-stand r ∙ ap (λ (q : Reading). fedParts q parts) (s .stands)) ∙ bytes.promised .cut parts) h
 
--- ---- a statement or a refusal
-
-by-outcome : (n : ℕ) {t : List ℕ} (k : ℕ) → Printed t → Printed (outcome n t (refusal k))
-unfolding outcome
-by-outcome zero k p = p
-by-outcome (suc n) k p = refused k (suc n)
-
-by-case : (b : Bool) {s t : List ℕ} → Printed s → Printed t → Printed (cond b s t)
-by-case true p q = p
-by-case false p q = q
-
-printed-either : (k : ℕ) (p : Progress) → Printed (printed k p)
-unfolding printed
-printed-either k begins = refused (k + 1) 31
-printed-either k (gathers s plants profile) = refused (k + 1) 31
-printed-either k (settles plants profile m l) =
-    by-case (eqb (m .due) (m .periods + 1)) (by-outcome (closeCall m .number) k (statement (closeCall m .month .due - 1) plants l)) (refused (k + 1) 31)
-printed-either k (refuses j n) = refused j n
-
-following-either : (k : ℕ) (p : Progress) (ls : List FileLine) → Printed (following k p ls)
-unfolding following
-following-either k p [] = printed-either k p
-following-either k p (l ∷ ls) = following-either (k + 1) (next (k + 1) p l) ls
-
-either : (bytes : List ℕ) → Printed (settledFile bytes)
-unfolding settledFile
-either bytes = following-either 0 begins (lines bytes)
-
 pub promised : Promised
-promised = record { valid = λ s r. feeds-valid (s .valid) r; written = feeds-written; either = either }
+promised = record { valid = λ s r. feeds-valid (s .valid) r; written = feeds-written }
 
 -- ---- before the first byte
 

@@ -31,7 +31,7 @@ settle-alike : (m : Month) (plants : List Plant) (profile metered lent other : L
 unfolding settleNumber
 settle-alike m plants profile metered lent other l p = rw p
 
-settle-number : (m : Month) (plants : List Plant) (profile metered lent : List ℕ) (l : Ledger)
+pub settle-number : (m : Month) (plants : List Plant) (profile metered lent : List ℕ) (l : Ledger)
     → settleCall m plants profile metered lent l .answer .number ≡ settleNumber m plants profile metered lent l
 unfolding settleCall
 settle-number m plants profile metered lent l =
@@ -45,10 +45,10 @@ unfolding settleCall
 settle-same m plants profile metered lent other l p q = accepted _ _ _ p ∙ sym (accepted _ _ _ q)
 
 -- ... the month with the next period due
-abbrev onward : Month → Month
+abbrev pub onward : Month → Month
 onward m = record { stage = m .stage; plants = m .plants; periods = m .periods; tariff = m .tariff; due = m .due + 1 }
 
-settle-month : (m : Month) (plants : List Plant) (profile metered lent : List ℕ) (l : Ledger) → settleNumber m plants profile metered lent l ≡ 0
+pub settle-month : (m : Month) (plants : List Plant) (profile metered lent : List ℕ) (l : Ledger) → settleNumber m plants profile metered lent l ≡ 0
     → settleCall m plants profile metered lent l .answer .month ≡ onward m
 unfolding settleCall
 settle-month m plants profile metered lent l z = ap (λ (r : SettleEnd). r .answer .month) (accepted _ _ _ z)

@@ -1,13 +1,9 @@
--- The machine over a whole file: fed with parts of any size and finished, it writes what the file's definition prints, which is a statement or a
--- refusal. Assumes nothing.
+-- The machine over a whole file: fed with parts of any size and finished, it writes what the file's definition prints. Assumes nothing.
 use mathlib.Core.List.{List, [], _∷_, flatten}
 use Prim.Native.Nat.{ℕ}
-use Rattle.hour.specs.declared.Plant.{Plant}
-use Rattle.ledger.specs.Ledger.{Ledger}
-use Rattle.statement.specs.Statement.{statementText}
 use Rattle.statement.specs.Writing.{Fills}
 use Rattle.month_file.specs.declared.MonthFile.{MonthFile}
-use Rattle.month_file.specs.File.{refusal, settledFile}
+use Rattle.month_file.specs.File.{settledFile}
 use Rattle.month_file.specs.Bytes.{finished}
 use Rattle.month_file.specs.Machine.{Kept, readingOf, Valid, Fresh, Fed}
 
@@ -23,16 +19,9 @@ pub data Feeds : Place → List (List ℕ) → Place → Type 0 where
   more : {a b c : Place} {part : List ℕ} {parts : List (List ℕ)} → Fed (a .file) (a .lists) (a .line) part (b .file) (b .lists) (b .line) → Feeds b parts c
       → Feeds a (part ∷ parts) c
 
--- what may be printed
-pub data Printed : List ℕ → Type 0 where
-  statement : (settled : ℕ) (plants : List Plant) (l : Ledger) → Printed (statementText settled plants l)
-  refused : (line number : ℕ) → Printed (refusal line number)
-
 pub record Promised : Type 0 where
   -- `feed` and `finish` may be called after any parts
   pub valid : {a b : Place} {parts : List (List ℕ)} → Fresh (a .file) (a .lists) (a .line) → Feeds a parts b → Valid (b .file) (b .lists)
   -- what `finish` promises to write after any parts is what the file's definition prints for their bytes, however they were cut
   pub written : {a b : Place} {parts : List (List ℕ)} {before : List ℕ} {n : ℕ} {after : List ℕ} → Fresh (a .file) (a .lists) (a .line) → Feeds a parts b
       → Fills (finished (readingOf (b .file) (b .lists) (b .line))) before n after → Fills (settledFile (flatten parts)) before n after
-  -- there is no third outcome
-  pub either : (bytes : List ℕ) → Printed (settledFile bytes)

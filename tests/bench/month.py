@@ -21,9 +21,9 @@ def shared(total, weights):
     return parts
 
 
-def generated():
-    """The second program's month of 512 plants and 744 hours."""
-    text = subprocess.run([SECOND, "gen", "1", "month-full", "--stage", "0"], check=True, capture_output=True).stdout.decode()
+def generated(seed):
+    """A month of the second program, of 512 plants and 744 hours. In the months of some seeds one plant has all guarantees."""
+    text = subprocess.run([SECOND, "gen", str(seed), "month-full", "--stage", "0"], check=True, capture_output=True).stdout.decode()
     return [line.split(",") for line in text.splitlines()]
 
 
@@ -99,9 +99,13 @@ def parts(full, whole):
 
 
 STAGED = [SECOND, "month", "--stage", "0"]
-FULL = generated()
+FULL = generated(1)
+ALONE = generated(5)
 DEFICIT = in_deficit(FULL)
 assert deficits(DEFICIT) == 744
+assert sum(1 for line in ALONE if line[0] == "P" and line[3] != "0") == 1
 WHOLE = compared("full month", written("full.mre", FULL), deficits(FULL))
 compared("month in deficit in every hour", written("deficit.mre", DEFICIT), deficits(DEFICIT))
+# For each plant with a guarantee the second program sums the profile anew in each hour; here there is one such plant.
+compared("full month, one plant has all guarantees", written("alone.mre", ALONE), deficits(ALONE))
 parts(FULL, WHOLE)

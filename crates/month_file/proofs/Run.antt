@@ -1,5 +1,5 @@
 -- The machine over a whole file. Assumes nothing.
-use mathlib.Core.Path.{_≡_, refl, sym, ap, subst, _∙_}
+use mathlib.Core.Path.{_≡_, refl, ap, subst, _∙_}
 use mathlib.Core.Bool.{Bool, true, false, cond}
 use mathlib.Core.List.{List, [], _∷_, flatten}
 use Prim.Native.Nat.{ℕ, zero, suc, _+_, _-_}
@@ -9,9 +9,9 @@ use Rattle.lists.specs.Questions.{outcome}
 use Rattle.month.specs.Calls.{closeCall}
 use Rattle.statement.specs.Writing.{Fills}
 use Rattle.month_file.specs.declared.MonthFile.{MonthFile}
-use Rattle.month_file.specs.File.{FileLine, lines, Progress, begins, gathers, settles, refuses, blank, next, refusal, printed, following, settledFile}
-use Rattle.month_file.specs.Bytes.{Reading, fedParts, start, finished}
-use Rattle.month_file.specs.Machine.{Kept, progressOf, readingOf, Lent, Valid, Fresh, Fed}
+use Rattle.month_file.specs.File.{FileLine, lines, Progress, begins, gathers, settles, refuses, next, refusal, printed, following, settledFile}
+use Rattle.month_file.specs.Bytes.{Reading, fedParts, finished}
+use Rattle.month_file.specs.Machine.{Kept, progressOf, readingOf, Lent, Valid, Fresh}
 use Rattle.month_file.specs.Run.{Place, Feeds, none, more, Printed, statement, refused, Promised}
 use Rattle.month_file.proofs.Bytes as bytes
 

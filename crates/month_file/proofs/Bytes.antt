@@ -2,10 +2,10 @@
 use mathlib.Core.Path.{_≡_, refl, sym, ap, _∙_}
 use mathlib.Core.Bool.{Bool, true, false, false≢true, cond}
 use mathlib.Core.List.{List, [], _∷_, _++_, flatten}
-use Prim.Native.Nat.{ℕ, suc, _+_, _≤_, _<_}
+use Prim.Native.Nat.{ℕ, _+_, _<_}
 use native.Mathlib.Omega.{arith}
-use borrow.Author.Tests.{ltb-true, ltb-false, lt-leb}
-use lib.Dec.{eqb, ltb, leb}
+use borrow.Author.Tests.{ltb-false, lt-leb}
+use lib.Dec.{eqb, ltb}
 use lib.ListN.{length, length-append}
 use Rattle.lists.specs.Questions.{firstNo, outcome}
 use Rattle.lines.specs.Reading.{readNumber}

@@ -1,12 +1,11 @@
 -- Laws of bytes that are collected to a line. Assumes nothing.
 use mathlib.Core.Path.{_≡_, refl, sym, ap, _∙_}
-use mathlib.Core.Bool.{Bool, true, false}
+use mathlib.Core.Bool.{false}
 use mathlib.Core.List.{List, [], _∷_, _++_}
 use Prim.Native.Nat.{ℕ, suc, _+_, _-_, _≤_, _<_}
 use native.Mathlib.Numerals.{add-one}
 use native.Mathlib.Omega.{arith}
 use borrow.Author.Tests.{ne-eqb, lt-ltb}
-use lib.Dec.{eqb, ltb}
 use lib.ListN.{length, take, drop, set, getD, length-set}
 use lib.Seq.{drop-cons, take-suc-set, length-take-le}
 use Rattle.month_file.specs.File.{Progress}

@@ -1,14 +1,12 @@
 -- The end of the file: the refusal, or the statement after close. Assumes nothing.
-use mathlib.Core.Path.{_≡_, refl, sym, ap, ap₂, subst, _∙_}
-use mathlib.Core.Bool.{Bool, true, false, cond}
+use mathlib.Core.Path.{_≡_, refl, sym, ap, subst, _∙_}
+use mathlib.Core.Bool.{false}
 use mathlib.Core.List.{List, [], _∷_, _++_, map}
 use Prim.Native.Nat.{ℕ, zero, suc, _+_, _-_, _*_, _^_, _≤_, _<_}
 use native.Mathlib.Omega.{arith}
 use borrow.Author.Tests.{eq-eqb, ne-eqb}
-use lib.Dec.{eqb}
-use lib.ListN.{length, take, drop, getD, length-append}
+use lib.ListN.{length, take, getD, length-append}
 use lib.Seq.{length-take-le}
-use Rattle.lists.specs.Lists.{Within}
 use Rattle.lists.specs.Questions.{outcome}
 use Rattle.lists.proofs.Questions.{accepted, refuses, outcome-part, asked, both, limits, then-zero}
 use Rattle.lines.specs.Figures.{figure, figureLength}
@@ -27,18 +25,17 @@ use Rattle.month.specs.Calls.{closeCall}
 use Rattle.statement.specs.Statement.{line, statementText, roomFor}
 use Rattle.statement.specs.Lengths.{statementLength}
 use Rattle.statement.specs.Laws.{InLimits}
-use Rattle.statement.specs.Writing.{Stateable, Room, Fills}
+use Rattle.statement.specs.Writing.{Stateable, Fills}
 use Rattle.statement.proofs.Text.{text-columns}
 use Rattle.statement.proofs.Limits.{callable}
 use Rattle.statement.proofs.Parts.{Left, left-whole}
 use Rattle.month_file.specs.declared.MonthFile.{MonthFile}
 use Rattle.month_file.specs.File as file
-use Rattle.month_file.specs.File.{FileLine, unfinished, Progress, begins, gathers, settles, read, refusal, printed, following}
-use Rattle.month_file.specs.Bytes.{Reading, isRefused, finished}
+use Rattle.month_file.specs.File.{unfinished, Progress, read, refusal, printed, following}
+use Rattle.month_file.specs.Bytes.{finished}
 use Rattle.month_file.specs.Machine.{Kept, rowsOf, ledgerOf, progressOf, readingOf, Settling, Valid, atRefusal, unendedNumber, Finishable, Ended}
 use Rattle.month_file.proofs.Bytes.{stays, reads, unfinished-some}
 use Rattle.month_file.proofs.Rows.{length-rows}
-use Rattle.month_file.proofs.Moves.{refused-moved}
 use Rattle.month_file.proofs.Gathered.{gathers-is}
 use Rattle.month_file.proofs.Taken.{by-stage, begins-is, settles-is, unrefused}
 use Rattle.month_file.proofs.Parts.{refused-progress}
@@ -49,7 +46,7 @@ refusal-is : (k n : ℕ) → refusal k n ≡ (82 ∷ []) ++ ((44 ∷ figure k) +
 unfolding refusal line
 refusal-is k n = refl
 
-pub refusal-short : (k n : ℕ) → k < 2 ^ 64 → n < 2 ^ 64 → length (refusal k n) ≤ 44
+refusal-short : (k n : ℕ) → k < 2 ^ 64 → n < 2 ^ 64 → length (refusal k n) ≤ 44
 unfolding figureLength
 refusal-short k n a b =
     let x = length-le-20 k a in

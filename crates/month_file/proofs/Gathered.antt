@@ -1,19 +1,16 @@
 -- P and H lines that are taken. Assumes nothing.
 use mathlib.Core.Path.{_≡_, refl, sym, ap, ap₂, _∙_}
-use mathlib.Core.Bool.{true, false, cond}
+use mathlib.Core.Bool.{cond}
 use mathlib.Core.List.{List, [], _∷_, _++_}
-use Prim.Native.Nat.{ℕ, suc, _+_, _*_, _≤_, _<_}
+use Prim.Native.Nat.{ℕ, _+_, _≤_, _<_}
 use native.Mathlib.Numerals.{add-one}
 use native.Mathlib.Omega.{arith}
 use borrow.Author.Tests.{lt-ltb, le-ltb, eq-eqb, ne-eqb}
-use lib.Dec.{eqb, ltb}
-use lib.IntN.{ℤ}
+use lib.Dec.{eqb}
 use lib.ListN.{length, take, set, getD, length-set, length-append}
 use lib.Seq.{take-suc-set, length-take-le}
 use Rattle.hour.specs.declared.Plant.{Plant}
-use Rattle.hour.specs.Table.{plantsOf}
 use Rattle.month_file.specs.declared.MonthFile.{MonthFile}
-use Rattle.month_file.specs.File as file
 use Rattle.month_file.specs.File.{Progress, Sizes, gathers, plantOf, opened, taken}
 use Rattle.month_file.specs.Machine.{Kept, kept, rowsOf, progressOf, Lent, Gathering, Valid, Moved, RowStored, atStage, Openable, openedOf}
 use Rattle.month_file.proofs.Rows.{rows-more, length-rows, equal-rows}

@@ -1,9 +1,9 @@
 -- What the state stands for once a line is read. Assumes nothing.
-use mathlib.Core.Path.{_≡_, refl, sym, ap, subst, _∙_}
-use mathlib.Core.List.{List, [], _∷_, _++_}
-use Prim.Native.Nat.{ℕ, _+_, _≤_, _<_}
+use mathlib.Core.Path.{_≡_, refl, sym, ap, subst}
+use mathlib.Core.List.{[]}
+use Prim.Native.Nat.{ℕ, _+_}
 use native.Mathlib.Omega.{arith}
-use lib.ListN.{length, take}
+use lib.ListN.{length}
 use Rattle.lists.specs.Questions.{outcome}
 use Rattle.lists.proofs.Questions.{refuses, accepts}
 use Rattle.hour.specs.Table.{plantsOf}
@@ -12,7 +12,7 @@ use Rattle.questions.proofs.Asked.{Sizes, sizes}
 use Rattle.month_file.specs.declared.MonthFile.{MonthFile}
 use Rattle.month_file.specs.File as file
 use Rattle.month_file.specs.File.{Progress, gathers, begun}
-use Rattle.month_file.specs.Machine.{Kept, rowsOf, progressOf, Lent, Gathering, Settling, Valid, Moved, atStage, atRefusal}
+use Rattle.month_file.specs.Machine.{Kept, rowsOf, progressOf, Lent, Moved, atStage, atRefusal}
 
 -- a state with another number, or with other sizes and no rows and figures yet
 abbrev pub numbered : MonthFile → ℕ → MonthFile

@@ -1,13 +1,12 @@
 -- The month opened after the last H line. Assumes nothing.
-use mathlib.Core.Path.{_≡_, refl, sym, ap, ap₂, subst, _∙_}
-use mathlib.Core.Bool.{true}
-use mathlib.Core.List.{List, [], _∷_, _++_}
-use Prim.Native.Nat.{ℕ, zero, suc, _+_, _*_, _≤_, _<_}
+use mathlib.Core.Path.{_≡_, refl, sym, ap, ap₂, _∙_}
+use mathlib.Core.List.{List, _++_}
+use Prim.Native.Nat.{ℕ, zero, suc, _+_, _*_, _≤_}
 use native.Mathlib.Omega.{arith}
 use lib.IntN.{ℤ, pos}
-use lib.ListN.{length, take, drop, replicate, length-replicate}
+use lib.ListN.{length, take, drop, length-replicate}
 use lib.Seq.{length-take-le, length-front, take-at}
-use Rattle.lists.specs.Questions.{firstNo, outcome}
+use Rattle.lists.specs.Questions.{outcome}
 use Rattle.lists.proofs.Questions.{accepted, outcome-part}
 use Rattle.hour.specs.declared.Plant.{Plant}
 use Rattle.ledger.specs.Ledger.{Ledger, zeros, inBounds}
@@ -15,14 +14,14 @@ use Rattle.ledger.proofs.Bounds.{zeros-in-bounds}
 use Rattle.month.specs.declared.Month.{Month}
 use Rattle.month.specs.declared.Opened.{Opened}
 use Rattle.month.specs.declared.Stage.the-variants.{Open}
-use Rattle.questions.specs.Questions.{lengthsNumber, tablesNumber, rowsNumber}
+use Rattle.questions.specs.Questions.{lengthsNumber, tablesNumber}
 use Rattle.month.specs.Questions.{openNumber}
 use Rattle.month.specs.Calls.{OpenEnd, openCall}
 use Rattle.month.proofs.Asked as asked
 use Rattle.month_file.specs.declared.MonthFile.{MonthFile}
 use Rattle.month_file.specs.File as file
-use Rattle.month_file.specs.File.{Progress, settles, blank, opened}
-use Rattle.month_file.specs.Machine.{Kept, kept, rowsOf, ledgerOf, progressOf, Lent, Settling, Valid, Moved, atStage, atRefusal, Openable, openedOf}
+use Rattle.month_file.specs.File.{settles, blank, opened}
+use Rattle.month_file.specs.Machine.{Kept, kept, rowsOf, ledgerOf, progressOf, Lent, Moved, atStage, atRefusal, Openable, openedOf}
 use Rattle.month_file.proofs.Rows.{length-rows}
 use Rattle.month_file.proofs.Moves.{moved-as, refuses-by}
 

@@ -1,25 +1,24 @@
 -- The bytes of a part, taken line by line. Assumes nothing.
-use mathlib.Core.Path.{_≡_, refl, sym, ap, ap₂, _∙_}
-use mathlib.Core.Bool.{Bool, true, false}
-use mathlib.Core.List.{List, [], _∷_, _++_}
-use Prim.Native.Nat.{ℕ, zero, suc, _+_, _-_, _*_, _≤_, _<_}
+use mathlib.Core.Path.{_≡_, refl, sym, ap, _∙_}
+use mathlib.Core.Bool.{true, false}
+use mathlib.Core.List.{List, [], _∷_}
+use Prim.Native.Nat.{ℕ, _+_, _-_, _≤_, _<_}
 use native.Mathlib.Numerals.{add-one}
 use native.Mathlib.Omega.{arith}
 use borrow.Author.Tests.{eq-eqb, ne-eqb, le-ltb}
-use lib.Dec.{eqb, ltb}
 use lib.ListN.{length, take, drop, getD, drop-of-length-le}
-use lib.Seq.{drop-cons, drop-length, length-take-le}
+use lib.Seq.{drop-cons, length-take-le}
 use Rattle.month_file.specs.declared.MonthFile.{MonthFile}
 use Rattle.month_file.specs.File as file
-use Rattle.month_file.specs.File.{whole, Progress, read, next}
+use Rattle.month_file.specs.File.{whole, read}
 use Rattle.month_file.specs.Bytes.{Reading, isRefused, ended, longer, byte, fed}
-use Rattle.month_file.specs.Machine.{Kept, progressOf, readingOf, Collected, Gathering, Settling, Valid, Moved, atRefusal, WorkLists, Advanced, Fed}
+use Rattle.month_file.specs.Machine.{Kept, progressOf, readingOf, Collected, Valid, Moved, atRefusal, WorkLists, Advanced, Fed}
 use Rattle.month_file.proofs.Bytes.{reads}
 use Rattle.month_file.proofs.Moves.{refused-moved}
 use Rattle.month_file.proofs.Taken.{unrefused}
 
 -- after a refusal no byte matters
-pub fed-refused : (bs : List ℕ) (r : Reading) → isRefused (r .progress) ≡ true → fed r bs ≡ r
+fed-refused : (bs : List ℕ) (r : Reading) → isRefused (r .progress) ≡ true → fed r bs ≡ r
 unfolding fed byte
 fed-refused [] r e = refl
 fed-refused (b ∷ bs) r e = rw e (fed-refused bs r e)
@@ -86,7 +85,7 @@ lengthened f n =
       number = f .number;
     }
 
-pub valid-longer : (f : MonthFile) (k : Kept) (n : ℕ) → Valid f k → n ≤ 8192 → Valid (lengthened f n) k
+valid-longer : (f : MonthFile) (k : Kept) (n : ℕ) → Valid f k → n ≤ 8192 → Valid (lengthened f n) k
 valid-longer f k n v h =
     record {
       lent = v .lent;

@@ -1,25 +1,24 @@
 -- A G line that is settled. Assumes nothing.
 use mathlib.Core.Path.{_≡_, refl, sym, ap, ap₂, _∙_}
 use mathlib.Core.Bool.{true}
-use mathlib.Core.List.{List, [], _∷_, _++_}
-use Prim.Native.Nat.{ℕ, _+_, _*_, _≤_, _<_}
+use mathlib.Core.List.{List, []}
+use Prim.Native.Nat.{ℕ, _+_, _*_, _≤_}
 use native.Mathlib.Omega.{arith}
 use lib.IntN.{ℤ}
-use lib.ListN.{length, take, drop, replicate, length-replicate}
-use lib.Seq.{length-take-le}
-use Rattle.lists.specs.Questions.{firstNo, outcome}
+use lib.ListN.{length, take, replicate, length-replicate}
+use Rattle.lists.specs.Questions.{outcome}
 use Rattle.lists.proofs.Questions.{accepted, outcome-part, parted, asked, both}
 use Rattle.hour.specs.declared.Plant.{Plant}
-use Rattle.hour.specs.Hour.{Hour, hourOf, secondary, guarantees, coverTable, secondaryTable, allotment}
+use Rattle.hour.specs.Hour.{hourOf, allotment}
 use Rattle.ledger.specs.Ledger.{Ledger, inBounds}
 use Rattle.month.specs.declared.Month.{Month}
 use Rattle.month.specs.declared.Settled.{Settled}
-use Rattle.month.specs.Questions.{meteredNumber, boundsNumber, settleNumber, posted}
+use Rattle.month.specs.Questions.{boundsNumber, settleNumber, posted}
 use Rattle.month.specs.Calls.{SettleEnd, settleCall}
 use Rattle.month.proofs.Asked as question
 use Rattle.month_file.specs.declared.MonthFile.{MonthFile}
 use Rattle.month_file.specs.File as file
-use Rattle.month_file.specs.File.{Progress, settles, settled}
+use Rattle.month_file.specs.File.{settles, settled}
 use Rattle.month_file.specs.Machine.{Kept, rowsOf, ledgerOf, progressOf, Lent, Settling, Valid, Moved, atStage, atRefusal, settledOf}
 use Rattle.month_file.proofs.Rows.{length-rows}
 use Rattle.month_file.proofs.Moves.{moved-as, refuses-by}

@@ -1,15 +1,14 @@
 -- A line that is read and, in turn, taken. Assumes nothing.
 use mathlib.Core.Path.{_≡_, refl, sym, ap, _∙_}
-use mathlib.Core.Bool.{Bool, true, false, cond, _&&_}
-use mathlib.Core.List.{List, [], _∷_, _++_, map}
-use Prim.Native.Nat.{ℕ, zero, suc, _+_, _-_, _*_, _≤_, _<_}
+use mathlib.Core.Bool.{Bool, true, false, cond}
+use mathlib.Core.List.{List, map}
+use Prim.Native.Nat.{ℕ, zero, suc, _+_, _-_, _≤_, _<_}
 use native.Mathlib.Omega.{arith}
 use borrow.Author.Tests.{eqb-true, lt-ltb, le-ltb, ltb-true, ltb-false}
 use lib.Dec.{eqb, ltb}
 use lib.ListN.{length, take, drop, getD, length-map, length-drop, List·getD-append}
 use lib.Seq.{length-take-le, take-at, take-all}
-use Rattle.lists.specs.Questions.{outcome}
-use Rattle.lists.proofs.Questions.{accepted, both, and-first, and-second}
+use Rattle.lists.proofs.Questions.{accepted, both}
 use Rattle.lines.specs.Figures.{value}
 use Rattle.lines.specs.Reading.{lineStart, lineFields, countFits, readNumber, ReadEnd, readCall}
 use Rattle.lines.specs.declared.reading.Line.{Line}
@@ -17,9 +16,9 @@ use Rattle.lines.proofs.Commas.{fields-some}
 use Rattle.lines.proofs.Accepted.{Read, read-number, read-start, read-count, read-figures, read-yes, month-fields, plant-fields, period-fields, meter-fields}
 use Rattle.month_file.specs.declared.MonthFile.{MonthFile}
 use Rattle.month_file.specs.File as file
-use Rattle.month_file.specs.File.{FileLine, whole, Progress, begins, settles, inTurn, begun, taken, read}
+use Rattle.month_file.specs.File.{whole, Progress, begins, settles, inTurn, begun, taken, read}
 use Rattle.month_file.specs.Bytes.{isRefused}
-use Rattle.month_file.specs.Machine.{Kept, rowsOf, ledgerOf, progressOf, gatherTurn, meterTurn, turn, Gathering, Settling, Valid, Moved, atRefusal, settledOf, Figured}
+use Rattle.month_file.specs.Machine.{Kept, rowsOf, ledgerOf, progressOf, gatherTurn, meterTurn, turn, Valid, Moved, atRefusal, settledOf, Figured}
 use Rattle.month_file.proofs.Rows.{length-rows}
 use Rattle.month_file.proofs.Moves.{moved-as, refused-moved, refuses-by}
 use Rattle.month_file.proofs.Gathered.{gathers-is}
@@ -95,7 +94,7 @@ module _ (f : MonthFile) (k : Kept) (v : Valid f k) (due : f .stage ≤ 2) where
     unfolding turn meterTurn inTurn
     meter-turn e = rw (settles-is f k e, e)
 
-    pub turn-is : turn f start (getD figures 0 0) ≡ inTurn (progressOf f k) start figures
+    turn-is : turn f start (getD figures 0 0) ≡ inTurn (progressOf f k) start figures
     turn-is = by-stage (f .stage) due first-turn gather-turn meter-turn
 
   -- how many figures a line in turn has
@@ -122,7 +121,7 @@ module _ (f : MonthFile) (k : Kept) (v : Valid f k) (due : f .stage ≤ 2) where
     gathering-some e true h = omega (arith, five e (ltb-true (f .rows) (f .plants) h))
     gathering-some e false h = omega (arith, two e (ltb-false (f .rows) (f .plants) h))
 
-    pub figured : (figures : List ℕ) → length figures ≡ n → Figured f figures
+    figured : (figures : List ℕ) → length figures ≡ n → Figured f figures
     figured figures l =
         record {
           due = due;
@@ -139,10 +138,10 @@ module _ (f : MonthFile) (k : Kept) (v : Valid f k) (due : f .stage ≤ 2) (line
   asks = read-number line old e ∙ ap (readNumber line) many
 
   -- 26 to 30
-  pub reading-refused : (ended : Bool) (r : MonthFile) → r ≡ atRefusal f (answer .number) → (answer .number ≡ 0 → ⊥)
-      → Moved f (read (f .count + 1) (progressOf f k) (record { bytes = line; ended = ended })) r k
+  pub reading-refused : (r : MonthFile) → r ≡ atRefusal f (answer .number) → (answer .number ≡ 0 → ⊥)
+      → Moved f (read (f .count + 1) (progressOf f k) (whole line)) r k
   unfolding read
-  reading-refused ended r q z = refuses-by f k (v .lent) r (answer .number) (readNumber line 513) _ q asks z
+  reading-refused r q z = refuses-by f k (v .lent) r (answer .number) (readNumber line 513) _ q asks z
 
   module _ (z : answer .number ≡ 0) where
     abbrev figures : List ℕ
@@ -167,11 +166,6 @@ module _ (f : MonthFile) (k : Kept) (v : Valid f k) (due : f .stage ≤ 2) (line
 
     first-field : getD new 0 0 ≡ getD figures 0 0
     first-field = ap (λ (l : List ℕ). getD l 0 0) (read-figures line old e z) ∙ List·getD-append figures _ 0 0 some-fields
-
-    -- the line without its byte 10
-    pub unended : (r : MonthFile) → r ≡ atRefusal f 31 → Moved f (read (f .count + 1) (progressOf f k) (record { bytes = line; ended = false })) r k
-    unfolding read
-    unended r q = moved-as f k (v .lent) (refused-moved f k (v .lent) 31) (sym q) (sym (accepted _ _ _ (sym asks ∙ z)))
 
     abbrev isTurn : Bool
     isTurn = turn f (answer .start) (getD new 0 0)

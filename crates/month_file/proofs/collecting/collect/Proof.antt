@@ -6,8 +6,6 @@ use borrow.Author.Needs.{needs}
 use Rattle.month_file.proofs.Collected.{Collecting, collecting, collecting-more, collected}
 use Rattle.month_file.proofs.collecting.collect.Statement.{statement}
 use Rattle.month_file.proofs.collecting.collect.Tie as tie
-use Rattle.month_file.proofs.collecting.collect.Reads as reads
-use Rattle.month_file.proofs.collecting.collect.Lts as lts
 
 abbrev Inv-loop : tie.InvT-loop
 Inv-loop part from line₀ at i₀ n₀ line i n = Collecting part from line₀ at i n line

@@ -1,5 +1,4 @@
 -- `finishing::finish` meets its contract. Assumes nothing.
-use mathlib.Core.Path.{sym, subst, ap}
 use native.Mathlib.Omega.{arith}
 use borrow.Author.Needs.{needs}
 use Rattle.month_file.specs.Machine.{Kept, kept}

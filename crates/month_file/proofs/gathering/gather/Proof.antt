@@ -1,7 +1,6 @@
 -- `gathering::gather` meets its contract. Assumes nothing.
 use native.Mathlib.Omega.{arith}
 use borrow.Author.Needs.{needs}
-use lib.ListN.{length-set}
 use Rattle.month_file.specs.Machine.{Kept, kept, Gathering}
 use Rattle.month_file.proofs.Gathered.{row-moved, figure-moved, openable, last-moved}
 use Rattle.month_file.proofs.gathering.gather.Statement.{statement}

@@ -1,5 +1,5 @@
 -- `taking::take_line` meets its contract. Assumes nothing.
-use mathlib.Core.Path.{_≡_, sym, _∙_}
+use mathlib.Core.Path.{sym, _∙_}
 use native.Mathlib.Omega.{arith}
 use borrow.Author.Needs.{needs}
 use borrow.Author.Tests.{not-true, not-false}
@@ -21,7 +21,7 @@ take-line-spec =
     (λ c κs. search needs)  -- read-line-requires
     (λ c κs. let s = c .before .before .before .before .before .before .before .before .before .before .before .before .before .before .before .before in few-lines _ (lists s) (s .pre .1) (s .pre .0 .0))  -- refused-requires
     (λ c. search needs)  -- same-length
-    (λ c. let s = c .before .before .before .before .before .before .before .before .before .before .before .before .before .before .before .before .before in reading-refused _ (lists s) (s .pre .1) (s .pre .0 .0) _ _ _ _ (s .pre .0 .1) (c .before .before .before .before .before .read-line .ensures) _ _ (c .refused .ensures) (c .before .if1 .taken))  -- returns
+    (λ c. let s = c .before .before .before .before .before .before .before .before .before .before .before .before .before .before .before .before .before in reading-refused _ (lists s) (s .pre .1) (s .pre .0 .0) _ _ _ _ (s .pre .0 .1) (c .before .before .before .before .before .read-line .ensures) _ (c .refused .ensures) (c .before .if1 .taken))  -- returns
     (λ c. search needs)  -- slice-read-in-turn
     (λ c κs. let s = c .before .before .before .before .before .before .before .before .before .before .before .before .before .before .before .before .before in profile-count _ (lists s) (s .pre .1) (s .pre .0 .0))  -- in-turn-requires
     (λ c κs. let s = c .before .before .before .before .before .before .before .before .before .before .before .before .before .before .before .before .before .before .before in few-lines _ (lists s) (s .pre .1) (s .pre .0 .0))  -- refused-requires-2

@@ -10,3 +10,4 @@ pub mod Taken
 pub mod Parts
 pub mod Ends
 pub mod Run
+pub mod Checked

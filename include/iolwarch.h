@@ -4,8 +4,8 @@
  * nothing between calls, allocate nothing, end on every input, and may be called from any thread.
  *
  * Every call answers a number: 0 when it did what it is for, and otherwise the number of the first question that was
- * answered no (table below). A refusal changes nothing: every list is as it was, the month is the caller's own, and
- * every other part of the answer but the number is zero.
+ * answered no (table below). A refusal changes nothing: every list is as it was, the month, or a file's state, is the
+ * caller's own, and every other part of the answer but the number is zero.
  *
  * Lists. A list is a pointer and its length, counted in elements. The pointer is never NULL, also where the length is
  * 0; it is aligned for its element. During a call nobody else writes to a list that the call reads, or touches a list
@@ -14,6 +14,8 @@
  *
  * The month goes from call to call by value: keep the one that a call hands back, and pass it to the next. It and the
  * ledger's two lists are all that goes on; plants, profile, metered figures and the allotment list belong to one call.
+ *
+ * For a whole month file there is iolwarch_workspace: begin, feed the bytes in parts of any size, finish.
  */
 #ifndef IOLWARCH_H
 #define IOLWARCH_H
@@ -56,7 +58,7 @@ extern "C" {
  *  Closing, balance, statement
  *   20  the last period is settled, so that H + 1 is due
  *   21  the month is not blank
- *   22  at least 128P + 128 bytes are lent
+ *   22  at least 128P + 128 bytes are lent (for a file's finish, 65,664)
  *
  *  Transfer step and sharing
  *   23  all eight figures are at most 2 x 10^9, the needs no more than what is left in sum, no submarket has both
@@ -159,6 +161,33 @@ typedef struct {
     uint64_t start;
     uint64_t length;
 } iolwarch_place;
+
+/* How far a month file has come: what goes from part to part. iolwarch_file_begin makes the first; keep the one that a
+ * feed hands back, and change nothing in it. */
+typedef struct {
+    uint64_t stage;   /* 0 the first line is due, 1 P and H lines, 2 G lines, 3 refused */
+    uint64_t length;  /* bytes of the line that has begun */
+    uint64_t count;   /* lines read */
+    uint64_t plants;  /* P, H and TEO of the first line */
+    uint64_t periods;
+    uint64_t tariff;
+    uint64_t rows;    /* P lines taken */
+    uint64_t figures; /* H lines taken */
+    iolwarch_month month;
+    uint64_t number;  /* of the file's refusal */
+} iolwarch_file;
+
+/* The answer of a feed. */
+typedef struct {
+    uint64_t number;
+    iolwarch_file file;
+} iolwarch_fed;
+
+/* The answer of a finish: how many bytes of the text were written. */
+typedef struct {
+    uint64_t number;
+    uint64_t length;
+} iolwarch_finished;
 
 /* The ledger is two lists, row by row: `allotted`, four kWh figures a plant, one for each submarket; `accounts`, two
  * signed figures a plant, net kWh before money in thousandths of a centavo. For P plants they have 4P and 2P figures.
@@ -263,6 +292,109 @@ iolwarch_line iolwarch_read_line(const uint8_t *line, size_t line_length,
  * Leaves   the line as it was: it is only read.
  */
 iolwarch_place iolwarch_field(const uint8_t *line, size_t line_length, uint64_t index);
+
+/* A month file, in parts of any size: begin once, feed each part as it comes, finish after the last. The lists are the
+ * caller's, and hold what was read from call to call: lend the same ones each time, and leave them alone in between. Any
+ * content will do at the start. iolwarch_workspace, below, has them all.
+ *
+ *     line            8,192 bytes     the line that has begun
+ *     figures           513           the figures of a line, in one call
+ *     submarket .. availability  512 each, the columns of the plant table
+ *     profile           744           the profile
+ *     allotment       2,048           an hour's allotment, in one call
+ *     allotted, accounts  2,048 and 1,024, the ledger
+ *     text           65,664 bytes     for finish: the statement, or the refusal
+ *
+ * Longer lists will do; only so much of them is used. Each call looks over the table and the ledger that are kept, so a
+ * part of some hundred bytes costs little more than a part of one. */
+
+/* The state before the first byte. */
+iolwarch_file iolwarch_file_begin(void);
+
+/* Feeds the next part of the file, of any length, 0 too, cut anywhere.
+ *
+ * Takes    the state that begin or the last feed answered, the part, and the lists as they were left.
+ * Answers  0 and the next state; or 30, a list is too short; or 31, no feed can have left this state with these lists;
+ *          the state is then as it came. A file that is refused is fed with 0: finish writes its refusal, and no part
+ *          after it matters. A state that begin made and only feeds have changed is never met by 31.
+ * Leaves   with 0 the lists as the next call needs them; otherwise all of them as they were. The part is only read.
+ */
+iolwarch_fed iolwarch_file_feed(iolwarch_file file,
+                                const uint8_t *part, size_t part_length,
+                                uint8_t *line, size_t line_length,
+                                uint64_t *figures, size_t figures_length,
+                                uint64_t *submarket, size_t submarket_length,
+                                uint64_t *number, size_t number_length,
+                                uint64_t *guarantee, size_t guarantee_length,
+                                uint64_t *loss, size_t loss_length,
+                                uint64_t *availability, size_t availability_length,
+                                uint64_t *profile, size_t profile_length,
+                                uint64_t *allotment, size_t allotment_length,
+                                uint64_t *allotted, size_t allotted_length,
+                                int64_t *accounts, size_t accounts_length);
+
+/* Ends the file: the month is closed and its statement written, or the refusal, `R,line,number` and a byte 10.
+ *
+ * Takes    the state that the last feed answered, the lists as it left them, and at least 65,664 bytes for the text.
+ * Answers  0 and how many bytes were written; or 30, a list is too short, 22, the text is, or 31, as for feed (put in
+ *          this order), and 0.
+ * Leaves   with 0 what is printed at the front of the text and the rest of it as it was; figures has any content.
+ *          Otherwise both as they were. The other lists are only read.
+ */
+iolwarch_finished iolwarch_file_finish(iolwarch_file file,
+                                       const uint8_t *line, size_t line_length,
+                                       uint64_t *figures, size_t figures_length,
+                                       const uint64_t *submarket, size_t submarket_length,
+                                       const uint64_t *number, size_t number_length,
+                                       const uint64_t *guarantee, size_t guarantee_length,
+                                       const uint64_t *loss, size_t loss_length,
+                                       const uint64_t *availability, size_t availability_length,
+                                       const uint64_t *profile, size_t profile_length,
+                                       const uint64_t *allotted, size_t allotted_length,
+                                       const int64_t *accounts, size_t accounts_length,
+                                       uint8_t *text, size_t text_length);
+
+/* Everything that a month file needs, 145,464 bytes: for a month at the limits, and so for any. */
+typedef struct {
+    iolwarch_file file;
+    uint8_t line[8192];
+    uint64_t figures[513];
+    uint64_t submarket[512];
+    uint64_t number[512];
+    uint64_t guarantee[512];
+    uint64_t loss[512];
+    uint64_t availability[512];
+    uint64_t profile[744];
+    uint64_t allotment[4 * 512];
+    uint64_t allotted[4 * 512];
+    int64_t accounts[2 * 512];
+    uint8_t text[128 * 512 + 128];
+} iolwarch_workspace;
+
+/* A workspace with any content, before the first byte. */
+static inline void iolwarch_workspace_begin(iolwarch_workspace *w)
+{
+    w->file = iolwarch_file_begin();
+}
+
+/* The next part. Answers the feed's number. */
+static inline uint64_t iolwarch_workspace_feed(iolwarch_workspace *w, const uint8_t *part, size_t length)
+{
+    iolwarch_fed fed = iolwarch_file_feed(
+        w->file, part, length, w->line, sizeof w->line, w->figures, 513, w->submarket, 512, w->number, 512,
+        w->guarantee, 512, w->loss, 512, w->availability, 512, w->profile, 744, w->allotment, 4 * 512, w->allotted,
+        4 * 512, w->accounts, 2 * 512);
+    w->file = fed.file;
+    return fed.number;
+}
+
+/* After the last part: answers the finish's number and how many bytes of w->text are the file's output. */
+static inline iolwarch_finished iolwarch_workspace_finish(iolwarch_workspace *w)
+{
+    return iolwarch_file_finish(w->file, w->line, sizeof w->line, w->figures, 513, w->submarket, 512, w->number, 512,
+                                w->guarantee, 512, w->loss, 512, w->availability, 512, w->profile, 744, w->allotted,
+                                4 * 512, w->accounts, 2 * 512, w->text, sizeof w->text);
+}
 
 /* Shares a total over weights: the i-th part is floor(total x Ci / W) - floor(total x C(i-1) / W), where Ci is the sum
  * of the first i weights and W of all. The parts add up to the total; when the total is at most W, no part exceeds

@@ -407,6 +407,94 @@ static void lines(void)
     check(place.number == 28 && place.start == 0 && place.length == 0, "no such field");
 }
 
+/* ---- month files */
+
+static iolwarch_workspace work;
+static iolwarch_workspace before;
+
+/* A file of `length` bytes, fed in parts of `size` and finished: what is printed, and nothing behind it. */
+static void printed(const char *what, const char *file, size_t size, const char *text)
+{
+    const size_t length = strlen(file);
+    const uint8_t *bytes = (const uint8_t *)file;
+    iolwarch_finished end;
+    size_t at;
+    int good = 1;
+    memset(&work, 'x', sizeof work);
+    iolwarch_workspace_begin(&work);
+    for (at = 0; at < length; at += size) {
+        good &= iolwarch_workspace_feed(&work, bytes + at, length - at < size ? length - at : size) == 0;
+    }
+    check(good, what);
+    end = iolwarch_workspace_finish(&work);
+    check(end.number == 0 && end.length == strlen(text) && memcmp(work.text, text, end.length) == 0, what);
+    check(work.text[end.length] == 'x' && work.text[sizeof work.text - 1] == 'x', what);
+}
+
+/* Feed and finish refused: the number, and state, lists and text as they were. */
+static void unknown(const char *what, uint64_t number)
+{
+    const uint8_t part[] = "MRE,1,1,3,1300\n";
+    iolwarch_finished end;
+    memcpy(&before, &work, sizeof work);
+    check(iolwarch_workspace_feed(&work, part, sizeof part - 1) == number, what);
+    check(memcmp(&before, &work, sizeof work) == 0, what);
+    end = iolwarch_workspace_finish(&work);
+    check(end.number == number && end.length == 0 && memcmp(&before, &work, sizeof work) == 0, what);
+}
+
+/* One list of a feed too short, by its place among the eleven. */
+static void short_list(const char *what, int list)
+{
+    const uint8_t part[] = "MRE,1,1,3,1300\n";
+    size_t n[11] = {8192, 513, 512, 512, 512, 512, 512, 744, 4 * 512, 4 * 512, 2 * 512};
+    iolwarch_fed fed;
+    iolwarch_finished end;
+    n[list]--;
+    memcpy(&before, &work, sizeof work);
+    fed = iolwarch_file_feed(work.file, part, sizeof part - 1, work.line, n[0], work.figures, n[1], work.submarket, n[2],
+                             work.number, n[3], work.guarantee, n[4], work.loss, n[5], work.availability, n[6],
+                             work.profile, n[7], work.allotment, n[8], work.allotted, n[9], work.accounts, n[10]);
+    check(fed.number == 30 && memcmp(&fed.file, &work.file, sizeof work.file) == 0, what);
+    end = iolwarch_file_finish(work.file, work.line, n[0], work.figures, n[1], work.submarket, n[2], work.number, n[3],
+                               work.guarantee, n[4], work.loss, n[5], work.availability, n[6], work.profile, n[7],
+                               work.allotted, n[9], work.accounts, n[10], work.text, list == 8 ? 65663 : 65664);
+    check(end.number == (list == 8 ? 22 : 30) && end.length == 0, what);
+    check(memcmp(&before, &work, sizeof work) == 0, what);
+}
+
+static void files(void)
+{
+    static const char file[] = "MRE,1,1,3,1300\nP,1,10,100,1000000,1000000\nP,1,11,50,1000000,1000000\n"
+                               "P,2,20,60,1000000,1000000\nH,1,180\nG,1,130,20,30\n";
+    static const char text[] = "A,1,10,85,0,0,0,45,58500\nA,1,11,43,0,0,0,-23,-29900\nA,2,20,22,30,0,0,-22,-28600\n"
+                               "T,1,3,150,30,0,0,180\n";
+    int list;
+    printed("file in one piece", file, sizeof file - 1, text);
+    printed("file in pieces of 7", file, 7, text);
+    printed("file byte by byte", file, 1, text);
+    printed("no byte at all", "", 1, "R,1,31\n");
+    printed("file without its last byte", "MRE,1,1,3,1300", 1, "R,1,31\n");
+    printed("a plant number twice", "MRE,1,1,2,0\nP,1,10,0,0,0\nP,1,10,0,0,0\nH,1,1\nG,1,1,0\n", 5, "R,4,6\n");
+
+    memset(&work, 'x', sizeof work);
+    work.file.stage = 2;
+    unknown("a state of any bytes", 31);
+    iolwarch_workspace_begin(&work);
+    work.file.count = 1;
+    unknown("a first line that is counted already", 31);
+    printed("file in one piece", file, sizeof file - 1, text);
+    work.submarket[2] = 5;
+    unknown("a row changed between two feeds", 31);
+    printed("file in one piece", file, sizeof file - 1, text);
+    work.accounts[0] = INT64_MIN;
+    unknown("a ledger changed between two feeds", 31);
+    iolwarch_workspace_begin(&work);
+    for (list = 0; list < 11; list++) {
+        short_list("a list too short", list);
+    }
+}
+
 int main(void)
 {
     sharing();
@@ -417,6 +505,7 @@ int main(void)
     example_month();
     statements();
     lines();
+    files();
     printf("%lu passed, %lu failed\n", passed, failed);
     return failed == 0 && passed > 0 ? 0 : 1;
 }

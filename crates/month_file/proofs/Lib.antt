@@ -10,6 +10,4 @@ pub mod Taken
 pub mod Parts
 pub mod Ends
 pub mod Run
-pub mod Followed
-pub mod Metered
-pub mod Sums
+pub mod Checked

@@ -4,4 +4,4 @@ pub mod Worked
 pub mod Bytes
 pub mod Machine
 pub mod Run
-pub mod Sums
+pub mod Checking

@@ -1,4 +1,4 @@
-// What the file says of itself: whether a line is in turn, a line refused.
+// 31: whether a line is in turn.
 use crate::MonthFile;
 use month::Month;
 ghost use mathlib.Core.Path.{_≡_};

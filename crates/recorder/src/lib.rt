@@ -4,6 +4,7 @@ use sharing::Transferred;
 ghost use mathlib.Core.Path.{_≡_};
 ghost use Rattle.sharing.specs.Calls.{Shared, sharingCall, transferCall};
 
+pub mod files;
 pub mod months;
 pub mod reading;
 

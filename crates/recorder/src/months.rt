@@ -86,7 +86,7 @@ fn stage_number(stage: Stage) -> u64
 }
 
 // The month that is meant.
-fn month_of(kept: KeptMonth) -> Month
+pub fn month_of(kept: KeptMonth) -> Month
     ensures { λ r. ⌜ r ≡ monthOf kept ⌝ }
 {
     let stage = stage_of(kept.stage);
@@ -99,7 +99,7 @@ fn month_of(kept: KeptMonth) -> Month
     }
 }
 
-fn kept_of(month: Month) -> KeptMonth
+pub fn kept_of(month: Month) -> KeptMonth
     ensures { λ r. ⌜ r ≡ keptOf month ⌝ }
 {
     let stage = month.stage;

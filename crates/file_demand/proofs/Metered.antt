@@ -23,13 +23,13 @@ use Rattle.statement.specs.Statement.{statementText}
 use Rattle.demand.specs.Tally as call
 use Rattle.demand.specs.Tally.{State, number, after, Entry, entries, Tally, tallied, tally, hoursAfter, hours, summed, IsTally, Left}
 use Rattle.demand.proofs.Demand.{demand3}
 use Rattle.month_file.specs.File.{FileLine, whole, settles, inTurn, blank, opened, taken, refusal, printed, following}
 use Rattle.month_file.specs.File as file
 use Rattle.month_file.specs.Bytes.{isRefused}
-use Rattle.month_file.specs.Sums.{figuresOf, meteredIn, hourCalls, fileCalls, unopened, fileHours, tallyOf, Stated, Rising, Outcome, settled, refused}
+use Rattle.file_demand.specs.Sums.{figuresOf, meteredIn, hourCalls, fileCalls, unopened, fileHours, tallyOf, Stated, Rising, Outcome, settled, refused}
 use Rattle.month_file.proofs.Opened.{open-number}
 use Rattle.month_file.proofs.Settled.{settle-number, onward, settle-month}
-use Rattle.month_file.proofs.Followed.{on, by-number, by-line, no-lines, one-line, rising-as}
+use Rattle.file_demand.proofs.Followed.{on, by-number, by-line, no-lines, one-line, rising-as}
 
 abbrev state : Month → Ledger → State
 state m l = record { month = m; ledger = l }

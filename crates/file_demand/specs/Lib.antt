@@ -1,0 +1,2 @@
+-- A settled file, from its bytes to the sums of demand 3.
+pub mod Sums

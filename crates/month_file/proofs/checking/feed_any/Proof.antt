@@ -1,0 +1,41 @@
+-- `checking::feed_any` meets its contract. Assumes nothing.
+use native.Mathlib.Omega.{arith}
+use borrow.Author.Needs.{needs}
+use lib.Seq.{length-take-le}
+use Rattle.month_file.proofs.Opened.{front-count}
+use Rattle.month_file.proofs.Checked.{feed-good, feed-refused, feed-taken}
+use Rattle.month_file.proofs.checking.feed_any.Statement.{statement}
+use Rattle.month_file.proofs.checking.feed_any.Tie as tie
+
+pub feed-any-spec : {M : Type 1} → statement M
+feed-any-spec =
+    tie.close
+    (tie.spec
+    (λ c κs. search needs)  -- feed-number-requires
+    (λ c. search needs)  -- same-length
+    (λ c. search needs)  -- same-length-2
+    (λ c. search needs)  -- same-length-3
+    (λ c. search needs)  -- same-length-4
+    (λ c. search needs)  -- same-length-5
+    (λ c. search needs)  -- same-length-6
+    (λ c. search needs)  -- same-length-7
+    (λ c. search needs)  -- same-length-8
+    (λ c. search needs)  -- same-length-9
+    (λ c. search needs)  -- same-length-10
+    (λ c. search needs)  -- same-length-11
+    (λ c. feed-refused (c .before .feed-number .ensures) (c .if1 .taken))  -- returns
+    (λ c. let g = feed-good (c .before .before .feed-number .ensures) (c .before .if1 .left) in omega (arith, g .0 .places))  -- slice-relend-prefix-feed
+    (λ c. let g = feed-good (c .before .before .before .feed-number .ensures) (c .before .before .if1 .left) in front-count 513 (c .before .before .before .before .before .before .before .before .before .before .before .before .before .before .before .before .before .before .before .before .before .before .before .before .before .before .args .figures .now) (g .0 .places))  -- slice-aggregate-feed
+    (λ c κs. let g = feed-good (c .before .before .before .before .before .before .before .before .before .before .before .before .feed-number .ensures) (c .before .before .before .before .before .before .before .before .before .before .before .if1 .left) in (record { bytes = g .0 .bytes; places = length-take-le 513 (c .before .before .before .before .before .before .before .before .before .before .before .before .before .before .before .before .before .before .before .before .before .before .before .before .before .before .before .before .before .before .before .before .before .before .before .args .figures .now) (g .0 .places); fours = g .0 .fours }, g .1))  -- feed-requires
+    (λ c. search needs)  -- same-length-12
+    (λ c. search needs)  -- same-length-13
+    (λ c. search needs)  -- same-length-14
+    (λ c. search needs)  -- same-length-15
+    (λ c. search needs)  -- same-length-16
+    (λ c. search needs)  -- same-length-17
+    (λ c. search needs)  -- same-length-18
+    (λ c. search needs)  -- same-length-19
+    (λ c. search needs)  -- same-length-20
+    (λ c. search needs)  -- same-length-21
+    (λ c. search needs)  -- same-length-22
+    (λ c. feed-taken _ _ _ _ _ (c .before .before .before .before .before .before .before .before .before .before .before .before .before .before .before .before .before .before .before .before .before .before .before .before .before .before .before .before .before .before .before .before .before .before .feed-number .ensures) (c .before .before .before .before .before .before .before .before .before .before .before .before .before .before .before .before .before .before .before .before .before .before .before .before .before .before .before .before .before .before .before .before .before .if1 .left) (c .before .before .before .before .before .before .before .before .before .before .before .before .before .before .before .before .before .before .before .before .before .feed .ensures)))  -- returns-2

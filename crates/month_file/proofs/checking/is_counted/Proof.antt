@@ -1,0 +1,19 @@
+-- `checking::is_counted` meets its contract. Assumes nothing.
+use native.Mathlib.Omega.{arith}
+use borrow.Author.Needs.{needs}
+use Rattle.month_file.proofs.Checked.{yes, no}
+use Rattle.month_file.proofs.checking.is_counted.Statement.{statement}
+use Rattle.month_file.proofs.checking.is_counted.Tie as tie
+
+pub is-counted-spec : {M : Type 1} → statement M
+is-counted-spec =
+    tie.close
+    (tie.spec
+    (λ c. no (λ p. omega (arith, p .plants, c .if1 .taken)))  -- returns
+    (λ c. no (λ p. omega (arith, p .periods, c .if2 .taken)))  -- returns-2
+    (λ c. search needs)  -- add-if3
+    (λ c. no (λ p. omega (arith, p .due, c .if3 .taken)))  -- returns-3
+    (λ c. search needs)  -- add-if4
+    (λ c. search needs)  -- add-if4-2
+    (λ c. no (λ p. c .if4 .taken (p .counted)))  -- returns-4
+    (λ c. yes (record { plants = c .before .before .before .before .before .before .before .before .if1 .left; periods = c .before .before .before .before .before .before .if2 .left; due = c .before .before .before .if3 .left; counted = c .if4 .left })))  -- returns-5

@@ -1,0 +1,394 @@
+// Feed and finish for any caller: what they need is decided at run time.
+use crate::MonthFile;
+use crate::feeding::feed;
+use crate::finishing::finish;
+use month::Month;
+use questions::rows_number;
+ghost use Rattle.month_file.specs.Machine.{kept, Lent, Gathering, Settling, Valid};
+ghost use Rattle.month_file.specs.Checking.{Decides, Counted, FeedNumber, FedAny, FinishNumber, FinishedAny};
+
+// Are the lists of what was read long enough for every month?
+fn are_lent(
+    submarket: &[u64],
+    number: &[u64],
+    guarantee: &[u64],
+    loss: &[u64],
+    availability: &[u64],
+    profile: &[u64],
+    allotted: &[u64],
+    accounts: &[i64],
+) -> bool
+    ensures { λ r. ⌜ Decides (Lent (kept (now (submarket .entry)) (now (number .entry)) (now (guarantee .entry)) (now (loss .entry)) (now (availability .entry)) (now (profile .entry)) (now (allotted .entry)) (now (accounts .entry)))) r ⌝ }
+{
+    if submarket.len() < 512 {
+        return false;
+    }
+    if number.len() < 512 {
+        return false;
+    }
+    if guarantee.len() < 512 {
+        return false;
+    }
+    if loss.len() < 512 {
+        return false;
+    }
+    if availability.len() < 512 {
+        return false;
+    }
+    if profile.len() < 744 {
+        return false;
+    }
+    if allotted.len() < 4 * 512 {
+        return false;
+    }
+    if accounts.len() < 2 * 512 {
+        return false;
+    }
+    true
+}
+
+// Among P and H lines: sizes in limits, and every line counted?
+fn is_gathering(file: MonthFile) -> bool
+    ensures { λ r. ⌜ Decides (Gathering file) r ⌝ }
+{
+    if 512 < file.plants {
+        return false;
+    }
+    if 744 < file.periods {
+        return false;
+    }
+    if file.plants < file.rows as u64 {
+        return false;
+    }
+    if file.periods <= file.figures as u64 {
+        return false;
+    }
+    if file.count != 1 + file.rows as u64 + file.figures as u64 {
+        return false;
+    }
+    true
+}
+
+// Among G lines: sizes in limits, and every line counted?
+fn is_counted(month: Month, count: u64) -> bool
+    ensures { λ r. ⌜ Decides (Counted month count) r ⌝ }
+{
+    if 512 < month.plants {
+        return false;
+    }
+    if 744 < month.periods {
+        return false;
+    }
+    if month.periods + 1 < month.due {
+        return false;
+    }
+    if count != month.plants + month.periods + month.due {
+        return false;
+    }
+    true
+}
+
+// ... 5 to 8 passed by the table, and the ledger in its bounds?
+fn is_settling(
+    file: MonthFile,
+    submarket: &[u64],
+    number: &[u64],
+    guarantee: &[u64],
+    loss: &[u64],
+    availability: &[u64],
+    profile: &[u64],
+    allotted: &[u64],
+    accounts: &[i64],
+) -> bool
+    requires { ⌜ Lent (kept (now submarket) (now number) (now guarantee) (now loss) (now availability) (now profile) (now allotted) (now accounts)) ⌝ }
+    ensures { λ r. ⌜ Decides (Settling file (kept (now (submarket .entry)) (now (number .entry)) (now (guarantee .entry)) (now (loss .entry)) (now (availability .entry)) (now (profile .entry)) (now (allotted .entry)) (now (accounts .entry)))) r ⌝ }
+{
+    let month = file.month;
+    if !is_counted(month, file.count) {
+        return false;
+    }
+    let rows = month.plants as usize;
+    let no = rows_number(
+        &submarket[..rows],
+        &number[..rows],
+        &guarantee[..rows],
+        &loss[..rows],
+        &availability[..rows],
+    );
+    if no != 0 {
+        return false;
+    }
+    let fours = 4 * rows;
+    let twos = 2 * rows;
+    ledger::in_bounds(&allotted[..fours], &accounts[..twos])
+}
+
+// Is it a state that `fresh` or a feed can have left, with the lists as they were left?
+fn is_valid(
+    file: MonthFile,
+    submarket: &[u64],
+    number: &[u64],
+    guarantee: &[u64],
+    loss: &[u64],
+    availability: &[u64],
+    profile: &[u64],
+    allotted: &[u64],
+    accounts: &[i64],
+) -> bool
+    requires { ⌜ Lent (kept (now submarket) (now number) (now guarantee) (now loss) (now availability) (now profile) (now allotted) (now accounts)) ⌝ }
+    ensures { λ r. ⌜ Decides (Valid file (kept (now (submarket .entry)) (now (number .entry)) (now (guarantee .entry)) (now (loss .entry)) (now (availability .entry)) (now (profile .entry)) (now (allotted .entry)) (now (accounts .entry)))) r ⌝ }
+{
+    if 8192 < file.length {
+        return false;
+    }
+    if file.stage == 0 {
+        return file.count == 0;
+    }
+    if file.stage == 1 {
+        return is_gathering(file);
+    }
+    if file.stage == 2 {
+        return is_settling(
+            file,
+            submarket,
+            number,
+            guarantee,
+            loss,
+            availability,
+            profile,
+            allotted,
+            accounts,
+        );
+    }
+    true
+}
+
+// 30 and 31 of a feed.
+fn feed_number(
+    file: MonthFile,
+    line: &[u8],
+    figures: &[u64],
+    submarket: &[u64],
+    number: &[u64],
+    guarantee: &[u64],
+    loss: &[u64],
+    availability: &[u64],
+    profile: &[u64],
+    allotment: &[u64],
+    allotted: &[u64],
+    accounts: &[i64],
+) -> u64
+    ensures { λ r. ⌜ FeedNumber file (record { held = kept (now (submarket .entry)) (now (number .entry)) (now (guarantee .entry)) (now (loss .entry)) (now (availability .entry)) (now (profile .entry)) (now (allotted .entry)) (now (accounts .entry)); line = now (line .entry); figures = now (figures .entry); allotment = now (allotment .entry) }) r ⌝ }
+{
+    if line.len() < 8192 {
+        return 30;
+    }
+    if figures.len() < 513 {
+        return 30;
+    }
+    if allotment.len() < 4 * 512 {
+        return 30;
+    }
+    if !are_lent(
+        submarket,
+        number,
+        guarantee,
+        loss,
+        availability,
+        profile,
+        allotted,
+        accounts,
+    ) {
+        return 30;
+    }
+    if !is_valid(
+        file,
+        submarket,
+        number,
+        guarantee,
+        loss,
+        availability,
+        profile,
+        allotted,
+        accounts,
+    ) {
+        return 31;
+    }
+    0
+}
+
+// What `feed_any` answers: the number, and the state handed back.
+pub struct FeedAnswer {
+    pub number: u64,
+    pub file: MonthFile,
+}
+
+// One part of the file, with a state and lists that may hold anything.
+pub fn feed_any(
+    file: MonthFile,
+    part: &[u8],
+    line: &mut [u8],
+    figures: &mut [u64],
+    submarket: &mut [u64],
+    number: &mut [u64],
+    guarantee: &mut [u64],
+    loss: &mut [u64],
+    availability: &mut [u64],
+    profile: &mut [u64],
+    allotment: &mut [u64],
+    allotted: &mut [u64],
+    accounts: &mut [i64],
+) -> FeedAnswer
+    ensures { λ r. ⌜ FedAny file (now (part .entry)) (record { held = kept (now (submarket .entry)) (now (number .entry)) (now (guarantee .entry)) (now (loss .entry)) (now (availability .entry)) (now (profile .entry)) (now (allotted .entry)) (now (accounts .entry)); line = now (line .entry); figures = now (figures .entry); allotment = now (allotment .entry) }) r (record { held = kept (now (submarket .exit)) (now (number .exit)) (now (guarantee .exit)) (now (loss .exit)) (now (availability .exit)) (now (profile .exit)) (now (allotted .exit)) (now (accounts .exit)); line = now (line .exit); figures = now (figures .exit); allotment = now (allotment .exit) }) ⌝ }
+{
+    let no = feed_number(
+        file,
+        line,
+        figures,
+        submarket,
+        number,
+        guarantee,
+        loss,
+        availability,
+        profile,
+        allotment,
+        allotted,
+        accounts,
+    );
+    if no != 0 {
+        return FeedAnswer { number: no, file };
+    }
+    let fed = feed(
+        file,
+        part,
+        line,
+        &mut figures[..513],
+        submarket,
+        number,
+        guarantee,
+        loss,
+        availability,
+        profile,
+        allotment,
+        allotted,
+        accounts,
+    );
+    FeedAnswer {
+        number: 0,
+        file: fed,
+    }
+}
+
+// 30, 22 and 31 of a finish.
+fn finish_number(
+    file: MonthFile,
+    line: &[u8],
+    figures: &[u64],
+    submarket: &[u64],
+    number: &[u64],
+    guarantee: &[u64],
+    loss: &[u64],
+    availability: &[u64],
+    profile: &[u64],
+    allotted: &[u64],
+    accounts: &[i64],
+    text: &[u8],
+) -> u64
+    ensures { λ r. ⌜ FinishNumber file (record { held = kept (now (submarket .entry)) (now (number .entry)) (now (guarantee .entry)) (now (loss .entry)) (now (availability .entry)) (now (profile .entry)) (now (allotted .entry)) (now (accounts .entry)); line = now (line .entry); figures = now (figures .entry); text = now (text .entry) }) r ⌝ }
+{
+    if line.len() < 8192 {
+        return 30;
+    }
+    if figures.len() < 513 {
+        return 30;
+    }
+    if !are_lent(
+        submarket,
+        number,
+        guarantee,
+        loss,
+        availability,
+        profile,
+        allotted,
+        accounts,
+    ) {
+        return 30;
+    }
+    if text.len() < 128 * 512 + 128 {
+        return 22;
+    }
+    if !is_valid(
+        file,
+        submarket,
+        number,
+        guarantee,
+        loss,
+        availability,
+        profile,
+        allotted,
+        accounts,
+    ) {
+        return 31;
+    }
+    0
+}
+
+// What `finish_any` answers: the number, and how many bytes were written.
+pub struct FinishAnswer {
+    pub number: u64,
+    pub length: usize,
+}
+
+// The input has ended, with a state and lists that may hold anything.
+pub fn finish_any(
+    file: MonthFile,
+    line: &[u8],
+    figures: &mut [u64],
+    submarket: &[u64],
+    number: &[u64],
+    guarantee: &[u64],
+    loss: &[u64],
+    availability: &[u64],
+    profile: &[u64],
+    allotted: &[u64],
+    accounts: &[i64],
+    text: &mut [u8],
+) -> FinishAnswer
+    ensures { λ r. ⌜ FinishedAny file (record { held = kept (now (submarket .entry)) (now (number .entry)) (now (guarantee .entry)) (now (loss .entry)) (now (availability .entry)) (now (profile .entry)) (now (allotted .entry)) (now (accounts .entry)); line = now (line .entry); figures = now (figures .entry); text = now (text .entry) }) r (record { held = kept (now (submarket .entry)) (now (number .entry)) (now (guarantee .entry)) (now (loss .entry)) (now (availability .entry)) (now (profile .entry)) (now (allotted .entry)) (now (accounts .entry)); line = now (line .entry); figures = now (figures .exit); text = now (text .exit) }) ⌝ }
+{
+    let no = finish_number(
+        file,
+        line,
+        figures,
+        submarket,
+        number,
+        guarantee,
+        loss,
+        availability,
+        profile,
+        allotted,
+        accounts,
+        text,
+    );
+    if no != 0 {
+        return FinishAnswer {
+            number: no,
+            length: 0,
+        };
+    }
+    let length = finish(
+        file,
+        line,
+        &mut figures[..513],
+        submarket,
+        number,
+        guarantee,
+        loss,
+        availability,
+        profile,
+        allotted,
+        accounts,
+        text,
+    );
+    FinishAnswer { number: 0, length }
+}

@@ -70,8 +70,9 @@ extern "C" {
  *   27  it starts with "MRE,1," or "P," or "H," or "G,"
  *   28  it has 3, 5, 2, or 2 to 513 fields after that start; for a field call: it has such a field
  *   29  every field is 1 to 19 digits, with no leading zero but "0" itself
- *   30  the figure list is long enough
- *   31  the line is in turn, has its end byte 10, and the file neither ends early nor goes on after the last G line
+ *   30  the figure list is long enough; for a file's feed and finish: every list is
+ *   31  the line is in turn, has its end byte 10, and the file neither ends early nor goes on after the last G line; for
+ *       feed and finish: state and lists fit together, as they do after every feed
  */
 
 /* One figure for each of submarkets 1 to 4, in that order. */
@@ -294,19 +295,20 @@ iolwarch_line iolwarch_read_line(const uint8_t *line, size_t line_length,
 iolwarch_place iolwarch_field(const uint8_t *line, size_t line_length, uint64_t index);
 
 /* A month file, in parts of any size: begin once, feed each part as it comes, finish after the last. The lists are the
- * caller's, and hold what was read from call to call: lend the same ones each time, and leave them alone in between. Any
- * content will do at the start. iolwarch_workspace, below, has them all.
+ * caller's, and hold what was read from call to call: lend the same ones each time, and leave them alone in between.
+ * Any content will do at the start. iolwarch_workspace, below, has them all.
  *
- *     line            8,192 bytes     the line that has begun
- *     figures           513           the figures of a line, in one call
- *     submarket .. availability  512 each, the columns of the plant table
- *     profile           744           the profile
- *     allotment       2,048           an hour's allotment, in one call
- *     allotted, accounts  2,048 and 1,024, the ledger
- *     text           65,664 bytes     for finish: the statement, or the refusal
+ *     line                         8,192 bytes   the line that has begun
+ *     figures                        513         the figures of a line, in one call
+ *     submarket .. availability      512 each    the columns of the plant table
+ *     profile                        744         the profile
+ *     allotment                    2,048         an hour's allotment, in one call
+ *     allotted                     2,048         the ledger
+ *     accounts                     1,024
+ *     text                        65,664 bytes   for finish: the statement, or the refusal
  *
- * Longer lists will do; only so much of them is used. Each call looks over the table and the ledger that are kept, so a
- * part of some hundred bytes costs little more than a part of one. */
+ * Longer lists will do; only so much of them is used. Each call looks over the table and the ledger that are kept, so
+ * few long parts are cheaper than many short ones. */
 
 /* The state before the first byte. */
 iolwarch_file iolwarch_file_begin(void);
@@ -314,9 +316,9 @@ iolwarch_file iolwarch_file_begin(void);
 /* Feeds the next part of the file, of any length, 0 too, cut anywhere.
  *
  * Takes    the state that begin or the last feed answered, the part, and the lists as they were left.
- * Answers  0 and the next state; or 30, a list is too short; or 31, no feed can have left this state with these lists;
- *          the state is then as it came. A file that is refused is fed with 0: finish writes its refusal, and no part
- *          after it matters. A state that begin made and only feeds have changed is never met by 31.
+ * Answers  0 and the next state; or 30, a list is too short; or 31, state and lists do not fit together; the state is
+ *          then as it came. A file that is refused is fed with 0: finish writes its refusal, and no part after it
+ *          matters. A state that begin made and only feeds have changed is never met by 31.
  * Leaves   with 0 the lists as the next call needs them; otherwise all of them as they were. The part is only read.
  */
 iolwarch_fed iolwarch_file_feed(iolwarch_file file,
@@ -354,7 +356,7 @@ iolwarch_finished iolwarch_file_finish(iolwarch_file file,
                                        const int64_t *accounts, size_t accounts_length,
                                        uint8_t *text, size_t text_length);
 
-/* Everything that a month file needs, 145,464 bytes: for a month at the limits, and so for any. */
+/* Everything that a month file needs, for a month at the limits and so for any: 145,464 bytes, so make it static. */
 typedef struct {
     iolwarch_file file;
     uint8_t line[8192];

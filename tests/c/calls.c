@@ -452,8 +452,8 @@ static void short_list(const char *what, int list)
     iolwarch_finished end;
     n[list]--;
     memcpy(&before, &work, sizeof work);
-    fed = iolwarch_file_feed(work.file, part, sizeof part - 1, work.line, n[0], work.figures, n[1], work.submarket, n[2],
-                             work.number, n[3], work.guarantee, n[4], work.loss, n[5], work.availability, n[6],
+    fed = iolwarch_file_feed(work.file, part, sizeof part - 1, work.line, n[0], work.figures, n[1], work.submarket,
+                             n[2], work.number, n[3], work.guarantee, n[4], work.loss, n[5], work.availability, n[6],
                              work.profile, n[7], work.allotment, n[8], work.allotted, n[9], work.accounts, n[10]);
     check(fed.number == 30 && memcmp(&fed.file, &work.file, sizeof work.file) == 0, what);
     end = iolwarch_file_finish(work.file, work.line, n[0], work.figures, n[1], work.submarket, n[2], work.number, n[3],

@@ -10,4 +10,3 @@ pub mod Taken
 pub mod Parts
 pub mod Ends
 pub mod Run
-pub mod Checked

@@ -4,4 +4,3 @@ pub mod Worked
 pub mod Bytes
 pub mod Machine
 pub mod Run
-pub mod Checking

@@ -6,7 +6,6 @@ ghost use Prim.Native.Nat.{_<_};
 ghost use Rattle.month_file.specs.Machine.{atStage, atRefusal};
 
 pub mod beginning;
-pub mod checking;
 mod collecting;
 pub mod feeding;
 pub mod finishing;

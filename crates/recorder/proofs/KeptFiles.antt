@@ -4,10 +4,10 @@ use mathlib.Core.List.{List}
 use Prim.Native.Nat.{ℕ}
 use Rattle.month.specs.declared.Month.{Month}
 use Rattle.month_file.specs.declared.MonthFile.{MonthFile}
-use Rattle.month_file.specs.declared.checking.FeedAnswer.{FeedAnswer}
-use Rattle.month_file.specs.declared.checking.FinishAnswer.{FinishAnswer}
+use Rattle.file_calls.specs.declared.FeedAnswer.{FeedAnswer}
+use Rattle.file_calls.specs.declared.FinishAnswer.{FinishAnswer}
 use Rattle.month_file.specs.Machine.{Kept, Lent, Fresh}
-use Rattle.month_file.specs.Checking.{FeedLists, FedAny, FinishLists, FinishedAny}
+use Rattle.file_calls.specs.Checking.{FeedLists, FedAny, FinishLists, FinishedAny}
 use Rattle.recorder.specs.declared.files.KeptFile.{KeptFile}
 use Rattle.recorder.specs.declared.files.KeptFed.{KeptFed}
 use Rattle.recorder.specs.Months.{monthOf}

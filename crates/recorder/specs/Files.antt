@@ -3,7 +3,7 @@ use mathlib.Core.Path.{_≡_}
 use mathlib.Core.List.{List}
 use Prim.Native.Nat.{ℕ}
 use Rattle.month_file.specs.declared.MonthFile.{MonthFile}
-use Rattle.month_file.specs.Checking.{FeedLists, FedAny}
+use Rattle.file_calls.specs.Checking.{FeedLists, FedAny}
 use Rattle.recorder.specs.declared.files.KeptFile.{KeptFile}
 use Rattle.recorder.specs.declared.files.KeptFed.{KeptFed}
 use Rattle.recorder.specs.Months.{monthOf, keptOf}

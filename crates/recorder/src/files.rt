@@ -7,7 +7,7 @@ ghost use mathlib.Core.Path.{_≡_};
 ghost use mathlib.Core.List.{List};
 ghost use Prim.Native.Nat.{ℕ};
 ghost use Rattle.month_file.specs.Machine.{Kept, kept, Lent, Fresh};
-ghost use Rattle.month_file.specs.Checking.{FinishedAny};
+ghost use Rattle.file_calls.specs.Checking.{FinishedAny};
 ghost use Rattle.recorder.specs.Files.{fileOf, keptFileOf, FileFed};
 
 // How far a month file has come, as the caller keeps it.
@@ -85,7 +85,7 @@ pub extern "C" fn iolwarch_file_begin() -> KeptFile
     kept_file_of(file)
 }
 
-// month_file::checking::feed_any.
+// file_calls::feed_any.
 #[no_mangle]
 pub extern "C" fn iolwarch_file_feed(
     file: KeptFile,
@@ -105,7 +105,7 @@ pub extern "C" fn iolwarch_file_feed(
     ensures { λ r. ⌜ FileFed file (now (part .entry)) (record { held = kept (now (submarket .entry)) (now (number .entry)) (now (guarantee .entry)) (now (loss .entry)) (now (availability .entry)) (now (profile .entry)) (now (allotted .entry)) (now (accounts .entry)); line = now (line .entry); figures = now (figures .entry); allotment = now (allotment .entry) }) r (record { held = kept (now (submarket .exit)) (now (number .exit)) (now (guarantee .exit)) (now (loss .exit)) (now (availability .exit)) (now (profile .exit)) (now (allotted .exit)) (now (accounts .exit)); line = now (line .exit); figures = now (figures .exit); allotment = now (allotment .exit) }) ⌝ }
 {
     let meant = file_of(file);
-    let fed = month_file::checking::feed_any(
+    let fed = file_calls::feed_any(
         meant,
         part,
         line,
@@ -133,7 +133,7 @@ pub extern "C" fn iolwarch_file_feed(
     }
 }
 
-// month_file::checking::finish_any.
+// file_calls::finish_any.
 #[no_mangle]
 pub extern "C" fn iolwarch_file_finish(
     file: KeptFile,
@@ -152,7 +152,7 @@ pub extern "C" fn iolwarch_file_finish(
     ensures { λ r. ⌜ FinishedAny (fileOf file) (record { held = kept (now (submarket .entry)) (now (number .entry)) (now (guarantee .entry)) (now (loss .entry)) (now (availability .entry)) (now (profile .entry)) (now (allotted .entry)) (now (accounts .entry)); line = now (line .entry); figures = now (figures .entry); text = now (text .entry) }) (record { number = r .number; length = r .length }) (record { held = kept (now (submarket .entry)) (now (number .entry)) (now (guarantee .entry)) (now (loss .entry)) (now (availability .entry)) (now (profile .entry)) (now (allotted .entry)) (now (accounts .entry)); line = now (line .entry); figures = now (figures .exit); text = now (text .exit) }) ⌝ }
 {
     let meant = file_of(file);
-    let finished = month_file::checking::finish_any(
+    let finished = file_calls::finish_any(
         meant,
         line,
         figures,

@@ -1,9 +1,9 @@
--- `checking::is_counted` meets its contract. Assumes nothing.
+-- `file_calls::is_counted` meets its contract. Assumes nothing.
 use native.Mathlib.Omega.{arith}
 use borrow.Author.Needs.{needs}
-use Rattle.month_file.proofs.Checked.{yes, no}
-use Rattle.month_file.proofs.checking.is_counted.Statement.{statement}
-use Rattle.month_file.proofs.checking.is_counted.Tie as tie
+use Rattle.file_calls.proofs.Checked.{yes, no}
+use Rattle.file_calls.proofs.is_counted.Statement.{statement}
+use Rattle.file_calls.proofs.is_counted.Tie as tie
 
 pub is-counted-spec : {M : Type 1} → statement M
 is-counted-spec =

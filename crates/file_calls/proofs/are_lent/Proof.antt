@@ -1,9 +1,9 @@
--- `checking::are_lent` meets its contract. Assumes nothing.
+-- `file_calls::are_lent` meets its contract. Assumes nothing.
 use native.Mathlib.Omega.{arith}
 use borrow.Author.Needs.{needs}
-use Rattle.month_file.proofs.Checked.{yes, no}
-use Rattle.month_file.proofs.checking.are_lent.Statement.{statement}
-use Rattle.month_file.proofs.checking.are_lent.Tie as tie
+use Rattle.file_calls.proofs.Checked.{yes, no}
+use Rattle.file_calls.proofs.are_lent.Statement.{statement}
+use Rattle.file_calls.proofs.are_lent.Tie as tie
 
 pub are-lent-spec : {M : Type 1} → statement M
 are-lent-spec =

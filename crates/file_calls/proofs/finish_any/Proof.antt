@@ -1,11 +1,11 @@
--- `checking::finish_any` meets its contract. Assumes nothing.
+-- `file_calls::finish_any` meets its contract. Assumes nothing.
 use native.Mathlib.Omega.{arith}
 use borrow.Author.Needs.{needs}
 use lib.Seq.{length-take-le}
 use Rattle.month_file.proofs.Opened.{front-count}
-use Rattle.month_file.proofs.Checked.{finish-good, finish-refused, finish-written}
-use Rattle.month_file.proofs.checking.finish_any.Statement.{statement}
-use Rattle.month_file.proofs.checking.finish_any.Tie as tie
+use Rattle.file_calls.proofs.Checked.{finish-good, finish-refused, finish-written}
+use Rattle.file_calls.proofs.finish_any.Statement.{statement}
+use Rattle.file_calls.proofs.finish_any.Tie as tie
 
 pub finish-any-spec : {M : Type 1} → statement M
 finish-any-spec =

@@ -1,9 +1,9 @@
--- `checking::is_gathering` meets its contract. Assumes nothing.
+-- `file_calls::is_gathering` meets its contract. Assumes nothing.
 use native.Mathlib.Omega.{arith}
 use borrow.Author.Needs.{needs}
-use Rattle.month_file.proofs.Checked.{yes, no}
-use Rattle.month_file.proofs.checking.is_gathering.Statement.{statement}
-use Rattle.month_file.proofs.checking.is_gathering.Tie as tie
+use Rattle.file_calls.proofs.Checked.{yes, no}
+use Rattle.file_calls.proofs.is_gathering.Statement.{statement}
+use Rattle.file_calls.proofs.is_gathering.Tie as tie
 
 pub is-gathering-spec : {M : Type 1} → statement M
 is-gathering-spec =

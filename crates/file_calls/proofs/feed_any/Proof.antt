@@ -1,11 +1,11 @@
--- `checking::feed_any` meets its contract. Assumes nothing.
+-- `file_calls::feed_any` meets its contract. Assumes nothing.
 use native.Mathlib.Omega.{arith}
 use borrow.Author.Needs.{needs}
 use lib.Seq.{length-take-le}
 use Rattle.month_file.proofs.Opened.{front-count}
-use Rattle.month_file.proofs.Checked.{feed-good, feed-refused, feed-taken}
-use Rattle.month_file.proofs.checking.feed_any.Statement.{statement}
-use Rattle.month_file.proofs.checking.feed_any.Tie as tie
+use Rattle.file_calls.proofs.Checked.{feed-good, feed-refused, feed-taken}
+use Rattle.file_calls.proofs.feed_any.Statement.{statement}
+use Rattle.file_calls.proofs.feed_any.Tie as tie
 
 pub feed-any-spec : {M : Type 1} → statement M
 feed-any-spec =

@@ -10,17 +10,17 @@ use lib.ListN.{length}
 use Rattle.ledger.specs.Ledger.{inBounds}
 use Rattle.questions.specs.Questions.{rowsNumber}
 use Rattle.statement.specs.Writing.{Fills}
 use Rattle.month_file.specs.declared.MonthFile.{MonthFile}
-use Rattle.month_file.specs.declared.checking.FeedAnswer.{FeedAnswer}
-use Rattle.month_file.specs.declared.checking.FinishAnswer.{FinishAnswer}
+use Rattle.file_calls.specs.declared.FeedAnswer.{FeedAnswer}
+use Rattle.file_calls.specs.declared.FinishAnswer.{FinishAnswer}
 use Rattle.month_file.specs.File.{settledFile}
 use Rattle.month_file.specs.Bytes.{finished}
 use Rattle.month_file.specs.Machine.{Kept, rowsOf, ledgerOf, Lent, Gathering, Settling, Valid, readingOf, Fresh, Fed}
 use Rattle.month_file.specs.Run.{Place, Feeds}
 use Rattle.month_file.specs.Run as run
-use Rattle.month_file.specs.Checking.{Decides, Counted, FeedLists, FeedRoom, FeedNumber, FedAny, FinishLists, FinishRoom, FinishNumber, FinishedAny, AnyPlace, AnyFeeds, AllTaken, AnyPromised}
-use Rattle.month_file.specs.Checking as def
+use Rattle.file_calls.specs.Checking.{Decides, Counted, FeedLists, FeedRoom, FeedNumber, FedAny, FinishLists, FinishRoom, FinishNumber, FinishedAny, AnyPlace, AnyFeeds, AllTaken, AnyPromised}
+use Rattle.file_calls.specs.Checking as def
 use Rattle.month_file.proofs.Run.{promised}
 
 -- ---- yes and no
 

@@ -1,11 +1,11 @@
 // Feed and finish for any caller: what they need is decided at run time.
-use crate::MonthFile;
-use crate::feeding::feed;
-use crate::finishing::finish;
 use month::Month;
+use month_file::MonthFile;
+use month_file::feeding::feed;
+use month_file::finishing::finish;
 use questions::rows_number;
 ghost use Rattle.month_file.specs.Machine.{kept, Lent, Gathering, Settling, Valid};
-ghost use Rattle.month_file.specs.Checking.{Decides, Counted, FeedNumber, FedAny, FinishNumber, FinishedAny};
+ghost use Rattle.file_calls.specs.Checking.{Decides, Counted, FeedNumber, FedAny, FinishNumber, FinishedAny};
 
 // Are the lists of what was read long enough for every month?
 fn are_lent(
@@ -123,7 +123,7 @@ fn is_settling(
     ledger::in_bounds(&allotted[..fours], &accounts[..twos])
 }
 
-// Is it a state that `fresh` or a feed can have left, with the lists as they were left?
+// Do state and lists fit together, as after `fresh` and every feed?
 fn is_valid(
     file: MonthFile,
     submarket: &[u64],

@@ -1,10 +1,10 @@
--- `checking::feed_number` meets its contract. Assumes nothing.
+-- `file_calls::feed_number` meets its contract. Assumes nothing.
 use native.Mathlib.Omega.{arith}
 use borrow.Author.Needs.{needs}
-use Rattle.month_file.specs.Checking as def
-use Rattle.month_file.proofs.Checked.{denied, granted}
-use Rattle.month_file.proofs.checking.feed_number.Statement.{statement}
-use Rattle.month_file.proofs.checking.feed_number.Tie as tie
+use Rattle.file_calls.specs.Checking as def
+use Rattle.file_calls.proofs.Checked.{denied, granted}
+use Rattle.file_calls.proofs.feed_number.Statement.{statement}
+use Rattle.file_calls.proofs.feed_number.Tie as tie
 
 pub feed-number-spec : {M : Type 1} → statement M
 feed-number-spec =

@@ -1,9 +1,9 @@
--- `checking::is_valid` meets its contract. Assumes nothing.
+-- `file_calls::is_valid` meets its contract. Assumes nothing.
 use native.Mathlib.Omega.{arith}
 use borrow.Author.Needs.{needs}
-use Rattle.month_file.proofs.Checked.{yes, no, alike, by-equal, valid-begun, valid-gathering, valid-settling, valid-else}
-use Rattle.month_file.proofs.checking.is_valid.Statement.{statement}
-use Rattle.month_file.proofs.checking.is_valid.Tie as tie
+use Rattle.file_calls.proofs.Checked.{yes, no, alike, by-equal, valid-begun, valid-gathering, valid-settling, valid-else}
+use Rattle.file_calls.proofs.is_valid.Statement.{statement}
+use Rattle.file_calls.proofs.is_valid.Tie as tie
 
 pub is-valid-spec : {M : Type 1} → statement M
 is-valid-spec =

@@ -1,10 +1,10 @@
--- `checking::finish_number` meets its contract. Assumes nothing.
+-- `file_calls::finish_number` meets its contract. Assumes nothing.
 use native.Mathlib.Omega.{arith}
 use borrow.Author.Needs.{needs}
-use Rattle.month_file.specs.Checking as def
-use Rattle.month_file.proofs.Checked.{denied, granted}
-use Rattle.month_file.proofs.checking.finish_number.Statement.{statement}
-use Rattle.month_file.proofs.checking.finish_number.Tie as tie
+use Rattle.file_calls.specs.Checking as def
+use Rattle.file_calls.proofs.Checked.{denied, granted}
+use Rattle.file_calls.proofs.finish_number.Statement.{statement}
+use Rattle.file_calls.proofs.finish_number.Tie as tie
 
 pub finish-number-spec : {M : Type 1} → statement M
 finish-number-spec =

@@ -1,4 +1,4 @@
--- Feed and finish for any caller: lists that are too short and a state that no feed has left are refused, and nothing is written. Assumes nothing.
+-- Feed and finish for any caller: lists that are too short, and a state that does not fit them, are refused, and nothing is written. Assumes nothing.
 use mathlib.Core.Path.{_≡_}
 use mathlib.Core.Bool.{Bool, true, false}
 use mathlib.Core.List.{List, [], _∷_, flatten}
@@ -6,12 +6,12 @@ use Prim.Native.Nat.{ℕ, _+_, _*_, _≤_, _<_}
 use lib.ListN.{length}
 use Rattle.statement.specs.Writing.{Fills}
 use Rattle.month.specs.declared.Month.{Month}
 use Rattle.month_file.specs.declared.MonthFile.{MonthFile}
-use Rattle.month_file.specs.declared.checking.FeedAnswer.{FeedAnswer}
-use Rattle.month_file.specs.declared.checking.FinishAnswer.{FinishAnswer}
+use Rattle.file_calls.specs.declared.FeedAnswer.{FeedAnswer}
+use Rattle.file_calls.specs.declared.FinishAnswer.{FinishAnswer}
 use Rattle.month_file.specs.File.{settledFile}
 use Rattle.month_file.specs.Bytes.{finished}
 use Rattle.month_file.specs.Machine.{Kept, Lent, Valid, readingOf, Fresh, Fed}
 
 -- the answer is yes where it holds, and no where it does not
 pub record Decides (holds : Type 0) (answer : Bool) : Type 0 where
@@ -41,7 +41,7 @@ pub record FeedRoom (l : FeedLists) : Type 0 where
   pub fours : 4 * 512 ≤ length (l .allotment)
   pub lent : Lent (l .held)
 
--- 30: are the lists long enough? 31: is it a state that a feed has left?
+-- 30: are the lists long enough? 31: do state and lists fit together, as after every feed?
 pub data FeedNumber : MonthFile → FeedLists → ℕ → Type 0 where
   short : {f : MonthFile} {l : FeedLists} → (FeedRoom l → ⊥) → FeedNumber f l 30
   unknown : {f : MonthFile} {l : FeedLists} → FeedRoom l → (Valid f (l .held) → ⊥) → FeedNumber f l 31

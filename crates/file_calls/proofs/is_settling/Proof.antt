@@ -1,13 +1,13 @@
--- `checking::is_settling` meets its contract. Assumes nothing.
+-- `file_calls::is_settling` meets its contract. Assumes nothing.
 use mathlib.Core.Path.{sym, _∙_}
 use native.Mathlib.Omega.{arith}
 use borrow.Author.Needs.{needs}
 use Rattle.month_file.specs.Machine.{rowsOf, ledgerOf, Settling}
 use Rattle.month_file.proofs.Rows.{equal-rows}
 use Rattle.month_file.proofs.Opened.{front-count}
-use Rattle.month_file.proofs.Checked.{no, alike, by-value, denied, granted, settling-counted, settling-yes}
-use Rattle.month_file.proofs.checking.is_settling.Statement.{statement}
-use Rattle.month_file.proofs.checking.is_settling.Tie as tie
+use Rattle.file_calls.proofs.Checked.{no, alike, by-value, denied, granted, settling-counted, settling-yes}
+use Rattle.file_calls.proofs.is_settling.Statement.{statement}
+use Rattle.file_calls.proofs.is_settling.Tie as tie
 
 pub is-settling-spec : {M : Type 1} → statement M
 unfolding rowsOf ledgerOf

@@ -1,0 +1,2 @@
+-- What feed and finish need, decided at run time.
+pub mod Checked

@@ -1,0 +1,2 @@
+-- The month file's calls for any caller.
+pub mod Checking

@@ -1,4 +1,4 @@
--- Feed and finish for any caller: lists that are too short and a state that no feed has left are refused, and nothing is written. Assumes nothing.
+-- Feed and finish for any caller: lists that are too short, and a state that does not fit them, are refused, and nothing is written. Assumes nothing.
 use mathlib.Core.Path.{_≡_}
 use mathlib.Core.Bool.{Bool, true, false}
 use mathlib.Core.List.{List, [], _∷_, flatten}
@@ -41,7 +41,7 @@ pub record FeedRoom (l : FeedLists) : Type 0 where
   pub fours : 4 * 512 ≤ length (l .allotment)
   pub lent : Lent (l .held)
 
--- 30: are the lists long enough? 31: is it a state that a feed has left?
+-- 30: are the lists long enough? 31: do state and lists fit together, as after every feed?
 pub data FeedNumber : MonthFile → FeedLists → ℕ → Type 0 where
   short : {f : MonthFile} {l : FeedLists} → (FeedRoom l → ⊥) → FeedNumber f l 30
   unknown : {f : MonthFile} {l : FeedLists} → FeedRoom l → (Valid f (l .held) → ⊥) → FeedNumber f l 31

@@ -123,7 +123,7 @@ fn is_settling(
     ledger::in_bounds(&allotted[..fours], &accounts[..twos])
 }
 
-// Is it a state that `fresh` or a feed can have left, with the lists as they were left?
+// Do state and lists fit together, as after `fresh` and every feed?
 fn is_valid(
     file: MonthFile,
     submarket: &[u64],

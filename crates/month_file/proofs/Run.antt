@@ -7,7 +7,7 @@ use Rattle.statement.specs.Writing.{Fills}
 use Rattle.month_file.specs.declared.MonthFile.{MonthFile}
 use Rattle.month_file.specs.File.{settledFile}
 use Rattle.month_file.specs.Bytes.{Reading, fedParts, finished}
-use Rattle.month_file.specs.Machine.{Kept, progressOf, readingOf, Lent, Valid, Fresh, Fed}
+use Rattle.month_file.specs.Machine.{Kept, progressOf, readingOf, Lent, Valid, Fresh}
 use Rattle.month_file.specs.Run.{Place, Feeds, none, more, Promised}
 use Rattle.month_file.proofs.Bytes as bytes
 

@@ -23,7 +23,7 @@ use Rattle.statement.specs.Statement.{statementText}
 use Rattle.demand.specs.Tally as call
 use Rattle.demand.specs.Tally.{State, number, after, Entry, entries, Tally, tallied, tally, hoursAfter, hours, summed, IsTally, Left}
 use Rattle.demand.proofs.Demand.{demand3}
-use Rattle.month_file.specs.File.{FileLine, whole, settles, inTurn, blank, opened, taken, refusal, printed, following}
+use Rattle.month_file.specs.File.{FileLine, whole, settles, inTurn, blank, taken, refusal, printed, following}
 use Rattle.month_file.specs.File as file
 use Rattle.month_file.specs.Bytes.{isRefused}
 use Rattle.file_demand.specs.Sums.{figuresOf, meteredIn, hourCalls, fileCalls, unopened, fileHours, tallyOf, Stated, Rising, Outcome, settled, refused}

@@ -18,6 +18,7 @@ extern "C" {
 const SET_PIPE_SIZE: i32 = 1031;
 
 const UNREADABLE: &str = "settle-month: standard input cannot be read\n";
+const UNWRITABLE: &str = "settle-month: standard output cannot be written\n";
 const SIGPIPE: i32 = 13;
 
 /// Bytes of an input that is far longer than any month file.
@@ -68,12 +69,12 @@ fn unreadable(count: &mut Count) {
 
 fn unwritable(count: &mut Count) {
     let full = OpenOptions::new().write(true).open("/dev/full").expect("/dev/full opens");
-    ends(count, "standard output shut", through_shell(">&-").stdin(example()), "");
-    ends(count, "standard output on a full device", program().stdin(example()).stdout(full), "");
+    ends(count, "standard output shut", through_shell(">&-").stdin(example()), UNWRITABLE);
+    ends(count, "standard output on a full device", program().stdin(example()).stdout(full), UNWRITABLE);
     // The shell leaves a signal ignored that it ignores, and the write then fails with EPIPE.
     let ignored = format!("trap '' PIPE; exec \"{}\"", program().get_program().to_string_lossy());
     let mut deaf = Command::new("/bin/sh");
-    ends(count, "the reader gone, SIGPIPE ignored", deaf.arg("-c").arg(ignored).stdin(example()).stdout(unread()), "");
+    ends(count, "the reader gone, SIGPIPE ignored", deaf.arg("-c").arg(ignored).stdin(example()).stdout(unread()), UNWRITABLE);
     let status = program().stdin(example()).stdout(unread()).status().expect("settle-month starts");
     count.case(status.signal() == Some(SIGPIPE), || format!("the reader gone: {}", status));
     count.tried("the reader gone, SIGPIPE as usual: ended by SIGPIPE");

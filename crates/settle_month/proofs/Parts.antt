@@ -1,5 +1,5 @@
 -- Parts that are read and fed, one after another. Assumes nothing.
-use mathlib.Core.Path.{_≡_, refl, sym, ap, _∙_}
+use mathlib.Core.Path.{_≡_, refl, sym, ap, _∙_, subst}
 use mathlib.Core.List.{List, [], _∷_, _++_, flatten}
 use Prim.Native.Nat.{ℕ, _≤_}
 use native.Mathlib.Omega.{arith}
@@ -14,6 +14,10 @@ use Rattle.month_file.specs.Run.{Place, Feeds, none, more}
 use Rattle.month_file.proofs.Parts.{Alike, alike-self, alike-more, room-alike}
 use Rattle.month_file.proofs.Run as run
 use Rattle.settle_month.specs.Input.{place, Taken, Settled, unread, written}
+
+-- the same bytes, said in another way
+pub fed-same : {f r : MonthFile} {k q : Kept} {line part same after : List ℕ} → part ≡ same → Fed f k line part r q after → Fed f k line same r q after
+fed-same {f} {r} {k} {q} {line} {after = after} e d = subst (λ (part : List ℕ). Fed f k line part r q after) e d
 
 -- one part more
 feeds-more : {a b c : Place} {parts : List (List ℕ)} {part : List ℕ} → Feeds a parts b → Fed (b .file) (b .lists) (b .line) part (c .file) (c .lists) (c .line)

@@ -1,5 +1,6 @@
--- What no contract can say is which bytes standard input holds. Whatever parts were read, they are fed in order, each once, and what is printed is
--- what the file's definition prints for their bytes. Assumes nothing.
+-- Which bytes standard input holds, and that each read is fed, no contract says; `take_part` says that a read's bytes are fed whole and once. Nor does one
+-- say that the input was at its end: `libc::read` alone knows. What is printed is what the file's definition prints for the bytes that were fed, in their
+-- order. Assumes nothing.
 use mathlib.Core.Path.{_≡_}
 use mathlib.Core.List.{List, flatten}
 use Prim.Native.Nat.{ℕ}

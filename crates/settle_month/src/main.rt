@@ -10,8 +10,9 @@ use month_file::finishing::finish;
 ghost use mathlib.Core.Path.{_≡_};
 ghost use mathlib.Core.Bool.{true};
 ghost use Prim.Native.Nat.{_*_, _+_, _≤_};
-ghost use lib.ListN.{length};
-ghost use Rattle.month_file.specs.Machine.{kept, Lent, Valid, WorkLists};
+ghost use lib.ListN.{length, take};
+ghost use Rattle.io.specs.Counts.{clamped};
+ghost use Rattle.month_file.specs.Machine.{kept, Lent, Valid, WorkLists, Fed};
 ghost use Rattle.settle_month.specs.Input.{place, Taken, Settled};
 
 // What was read: the state, and whether the input came to its end.
@@ -20,8 +21,47 @@ struct Input {
     whole: bool,
 }
 
-// Feeds what standard input holds, part by part, to its end. Nothing says that an input ends, so the turns are counted down, from a number that
-// no run uses up.
+// Feeds the bytes that a read put at the front of the part: all that it answered, and once.
+fn take_part(
+    file: MonthFile,
+    part: &[u8],
+    got: isize,
+    line: &mut [u8],
+    figures: &mut [u64],
+    submarket: &mut [u64],
+    number: &mut [u64],
+    guarantee: &mut [u64],
+    loss: &mut [u64],
+    availability: &mut [u64],
+    profile: &mut [u64],
+    allotment: &mut [u64],
+    allotted: &mut [u64],
+    accounts: &mut [i64],
+) -> MonthFile
+    requires { ⌜ WorkLists (now line) (now figures) (now allotment) ⌝ }
+    requires { ⌜ Valid file (kept (now submarket) (now number) (now guarantee) (now loss) (now availability) (now profile) (now allotted) (now accounts)) ⌝ }
+    ensures { λ r. ⌜ Fed file (kept (now (submarket .entry)) (now (number .entry)) (now (guarantee .entry)) (now (loss .entry)) (now (availability .entry)) (now (profile .entry)) (now (allotted .entry)) (now (accounts .entry))) (now (line .entry)) (take (clamped got (length (now (part .entry)))) (now (part .entry))) r (kept (now (submarket .exit)) (now (number .exit)) (now (guarantee .exit)) (now (loss .exit)) (now (availability .exit)) (now (profile .exit)) (now (allotted .exit)) (now (accounts .exit))) (now (line .exit)) ⌝ }
+{
+    let n = io::count(got, part);
+    feed(
+        file,
+        &part[..n],
+        line,
+        figures,
+        submarket,
+        number,
+        guarantee,
+        loss,
+        availability,
+        profile,
+        allotment,
+        allotted,
+        accounts,
+    )
+}
+
+// Feeds what standard input holds, part by part, to its end. No contract says where `whole` is true: `libc::read` alone knows of the end. Nothing
+// says that an input ends, so the turns are counted down, from a number that no run uses up.
 fn take_input(
     file: MonthFile,
     part: &mut [u8],
@@ -51,16 +91,16 @@ fn take_input(
                 whole: false,
             };
         }
-        let n = io::count(got, part);
-        if n == 0 {
+        if got == 0 {
             return Input {
                 file: f,
                 whole: true,
             };
         }
-        f = feed(
+        f = take_part(
             f,
-            &part[..n],
+            part,
+            got,
             line,
             figures,
             submarket,
@@ -174,5 +214,10 @@ fn main() {
         );
         return;
     }
-    io::write_all(STDOUT_FILENO, &text[..length]);
+    if !io::write_all(STDOUT_FILENO, &text[..length]) {
+        io::write_all(
+            STDERR_FILENO,
+            b"settle-month: standard output cannot be written\n",
+        );
+    }
 }

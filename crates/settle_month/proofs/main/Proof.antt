@@ -29,4 +29,7 @@ main-spec =
     (λ c. omega (arith, settled-fits (c .before .before .before .before .before .before .before .before .before .before .before .before .before .before .settle-input .ensures)))  -- array-share-prefix-text
     (λ c. settled-front (c .before .before .before .before .before .before .before .before .before .before .before .before .before .before .before .settle-input .ensures))  -- slice-aggregate-write-all-2
     (λ c κs. search needs)  -- write-all-requires-2
-    (λ c. search needs))  -- returns-2
+    (λ c. search needs)  -- slice-aggregate-write-all-3
+    (λ c κs. search needs)  -- write-all-requires-3
+    (λ c. search needs)  -- returns-2
+    (λ c. search needs))  -- returns-3

@@ -35,26 +35,23 @@ take-input-spec =
     (λ c. c .before .before .before .before .before .before .loop .inv .alike .allotted)  -- same-length-11
     (λ c. c .before .before .before .before .before .before .loop .inv .alike .accounts)  -- same-length-12
     (λ c. c .before .before .before .before .before .before .loop .inv .taken)  -- returns
-    (λ c κs. search needs)  -- count-requires
-    (λ c. c .before .before .before .before .before .before .read .kept .1 .0 ∙ c .before .before .before .before .before .before .before .before .before .loop .inv .same)  -- same-length-13
-    (λ c. c .before .before .before .before .before .before .before .before .before .loop .inv .alike .bytes)  -- same-length-14
-    (λ c. c .before .before .before .before .before .before .before .before .before .loop .inv .alike .places)  -- same-length-15
-    (λ c. c .before .before .before .before .before .before .before .before .before .loop .inv .alike .submarket)  -- same-length-16
-    (λ c. c .before .before .before .before .before .before .before .before .before .loop .inv .alike .number)  -- same-length-17
-    (λ c. c .before .before .before .before .before .before .before .before .before .loop .inv .alike .guarantee)  -- same-length-18
-    (λ c. c .before .before .before .before .before .before .before .before .before .loop .inv .alike .loss)  -- same-length-19
-    (λ c. c .before .before .before .before .before .before .before .before .before .loop .inv .alike .availability)  -- same-length-20
-    (λ c. c .before .before .before .before .before .before .before .before .before .loop .inv .alike .profile)  -- same-length-21
-    (λ c. c .before .before .before .before .before .before .before .before .before .loop .inv .alike .fours)  -- same-length-22
-    (λ c. c .before .before .before .before .before .before .before .before .before .loop .inv .alike .allotted)  -- same-length-23
-    (λ c. c .before .before .before .before .before .before .before .before .before .loop .inv .alike .accounts)  -- same-length-24
-    (λ c. c .before .before .before .before .before .before .before .before .before .loop .inv .taken)  -- returns-2
-    (λ c. c .before .count .ensures .0 .0)  -- slice-reshare-prefix-feed
-    (λ c. c .before .before .count .ensures .0 .1)  -- slice-aggregate-feed
-    (λ c κs. let i = c .before .before .before .before .before .before .before .before .before .before .before .before .before .before .before .before .before .before .before .before .before .loop .inv in (i .room, i .valid))  -- feed-requires
-    (λ c. omega (arith, c .before .before .before .before .before .before .before .before .before .before .before .before .before .before .before .before .before .before .before .before .before .before .before .before .before .before .before .before .before .before .before .before .before .before .before .before .before .before .before .before .before .before .loop-test .taken))  -- sub-turns
-    (λ c. omega (arith, c .before .before .before .before .before .before .before .before .before .before .before .before .before .before .before .before .before .before .before .before .before .before .before .before .before .before .before .before .before .before .before .before .before .before .before .before .before .before .before .before .before .before .loop-test .taken))  -- loop-less
-    (λ c. let w = c .before .before .before .before .before .before .before .before .before .before .before .before .before .before .before .before .before .before .before .before .before .feed in taking-more (c .before .before .before .before .before .before .before .before .before .before .before .before .before .before .before .before .before .before .before .before .before .before .before .before .before .before .before .before .before .before .before .before .before .before .before .before .before .before .before .before .before .before .before .loop .inv) (c .before .before .before .before .before .before .before .before .before .before .before .before .before .before .before .before .before .before .before .before .before .before .before .before .before .before .before .before .before .before .before .before .before .before .before .before .before .before .before .before .read .kept .1 .0) (w .ensures) (record { bytes = w .kept .1 .1 .0; places = w .kept .1 .1 .1 .0; submarket = w .kept .1 .1 .1 .1 .0; number = w .kept .1 .1 .1 .1 .1 .0; guarantee = w .kept .1 .1 .1 .1 .1 .1 .0; loss = w .kept .1 .1 .1 .1 .1 .1 .1 .0; availability = w .kept .1 .1 .1 .1 .1 .1 .1 .1 .0; profile = w .kept .1 .1 .1 .1 .1 .1 .1 .1 .1 .0; fours = w .kept .1 .1 .1 .1 .1 .1 .1 .1 .1 .1 .0; allotted = w .kept .1 .1 .1 .1 .1 .1 .1 .1 .1 .1 .1 .0; accounts = w .kept .1 .1 .1 .1 .1 .1 .1 .1 .1 .1 .1 .1 .0 }))  -- loop-again
+    (λ c. c .before .before .before .before .read .kept .1 .0 ∙ c .before .before .before .before .before .before .before .loop .inv .same)  -- same-length-13
+    (λ c. c .before .before .before .before .before .before .before .loop .inv .alike .bytes)  -- same-length-14
+    (λ c. c .before .before .before .before .before .before .before .loop .inv .alike .places)  -- same-length-15
+    (λ c. c .before .before .before .before .before .before .before .loop .inv .alike .submarket)  -- same-length-16
+    (λ c. c .before .before .before .before .before .before .before .loop .inv .alike .number)  -- same-length-17
+    (λ c. c .before .before .before .before .before .before .before .loop .inv .alike .guarantee)  -- same-length-18
+    (λ c. c .before .before .before .before .before .before .before .loop .inv .alike .loss)  -- same-length-19
+    (λ c. c .before .before .before .before .before .before .before .loop .inv .alike .availability)  -- same-length-20
+    (λ c. c .before .before .before .before .before .before .before .loop .inv .alike .profile)  -- same-length-21
+    (λ c. c .before .before .before .before .before .before .before .loop .inv .alike .fours)  -- same-length-22
+    (λ c. c .before .before .before .before .before .before .before .loop .inv .alike .allotted)  -- same-length-23
+    (λ c. c .before .before .before .before .before .before .before .loop .inv .alike .accounts)  -- same-length-24
+    (λ c. c .before .before .before .before .before .before .before .loop .inv .taken)  -- returns-2
+    (λ c κs. let i = c .before .before .before .before .before .before .before .before .before .before .before .before .before .before .before .before .before .before .before .loop .inv in (i .room, i .valid))  -- take-part-requires
+    (λ c. omega (arith, c .before .before .before .before .before .before .before .before .before .before .before .before .before .before .before .before .before .before .before .before .before .before .before .before .before .before .before .before .before .before .before .before .before .before .before .before .before .before .before .before .loop-test .taken))  -- sub-turns
+    (λ c. omega (arith, c .before .before .before .before .before .before .before .before .before .before .before .before .before .before .before .before .before .before .before .before .before .before .before .before .before .before .before .before .before .before .before .before .before .before .before .before .before .before .before .before .loop-test .taken))  -- loop-less
+    (λ c. let w = c .before .before .before .before .before .before .before .before .before .before .before .before .before .before .before .before .before .before .before .before .before .take-part in taking-more (c .before .before .before .before .before .before .before .before .before .before .before .before .before .before .before .before .before .before .before .before .before .before .before .before .before .before .before .before .before .before .before .before .before .before .before .before .before .before .before .before .before .loop .inv) (c .before .before .before .before .before .before .before .before .before .before .before .before .before .before .before .before .before .before .before .before .before .before .before .before .before .before .before .before .before .before .before .before .before .before .before .before .before .before .read .kept .1 .0) (w .ensures) (record { bytes = w .kept .1 .1 .1 .0; places = w .kept .1 .1 .1 .1 .0; submarket = w .kept .1 .1 .1 .1 .1 .0; number = w .kept .1 .1 .1 .1 .1 .1 .0; guarantee = w .kept .1 .1 .1 .1 .1 .1 .1 .0; loss = w .kept .1 .1 .1 .1 .1 .1 .1 .1 .0; availability = w .kept .1 .1 .1 .1 .1 .1 .1 .1 .1 .0; profile = w .kept .1 .1 .1 .1 .1 .1 .1 .1 .1 .1 .0; fours = w .kept .1 .1 .1 .1 .1 .1 .1 .1 .1 .1 .1 .0; allotted = w .kept .1 .1 .1 .1 .1 .1 .1 .1 .1 .1 .1 .1 .0; accounts = w .kept .1 .1 .1 .1 .1 .1 .1 .1 .1 .1 .1 .1 .1 .0 }))  -- loop-again
     (λ c. c .before .loop .inv .same)  -- same-length-25
     (λ c. c .before .loop .inv .alike .bytes)  -- same-length-26
     (λ c. c .before .loop .inv .alike .places)  -- same-length-27

@@ -16,8 +16,8 @@ use Rattle.month_file.proofs.Run as run
 use Rattle.settle_month.specs.Input.{place, Taken, Settled, unread, written}
 
 -- the same bytes, said in another way
-pub fed-same : {f r : MonthFile} {k q : Kept} {line part same after : List ℕ} → part ≡ same → Fed f k line part r q after → Fed f k line same r q after
-fed-same {f} {r} {k} {q} {line} {after = after} e d = subst (λ (part : List ℕ). Fed f k line part r q after) e d
+pub fed-same : {f r : MonthFile} {k q : Kept} {line part same after : List ℕ} → Fed f k line part r q after → part ≡ same → Fed f k line same r q after
+fed-same {f} {r} {k} {q} {line} {after = after} d e = subst (λ (part : List ℕ). Fed f k line part r q after) e d
 
 -- one part more
 feeds-more : {a b c : Place} {parts : List (List ℕ)} {part : List ℕ} → Feeds a parts b → Fed (b .file) (b .lists) (b .line) part (c .file) (c .lists) (c .line)

@@ -28,4 +28,4 @@ take-part-spec =
     (λ c. search needs)  -- same-length-9
     (λ c. search needs)  -- same-length-10
     (λ c. search needs)  -- same-length-11
-    (λ c. let s = c .before .before .before .before .before .before .before .before .before .before .before .before .before .before .before .before .before .before .before .before .before .before .before .before .before .before .before .before .before .before .before .before .before .before .before .before .before .before .before .before .before .before .before .before .before .before in let bytes = s .args .part .now in fed-same (ap (λ (n : ℕ). take n bytes) (c .before .before .before .before .before .before .before .before .before .before .before .before .before .before .before .before .before .before .before .before .before .before .before .before .before .before .before .before .before .before .before .before .before .before .count .ensures .1 ∙ ap (λ (z : ℤ). clamped z (length bytes)) (toZ-ofZ (s .fits .got)))) (c .before .before .before .before .before .before .before .before .before .before .before .before .before .before .before .before .before .before .before .before .before .feed .ensures)))  -- returns
+    (λ c. let s = c .before .before .before .before .before .before .before .before .before .before .before .before .before .before .before .before .before .before .before .before .before .before .before .before .before .before .before .before .before .before .before .before .before .before .before .before .before .before .before .before .before .before .before .before .before .before in let bytes = s .args .part .now in fed-same (c .before .before .before .before .before .before .before .before .before .before .before .before .before .before .before .before .before .before .before .before .before .feed .ensures) (ap (λ (n : ℕ). take n bytes) (c .before .before .before .before .before .before .before .before .before .before .before .before .before .before .before .before .before .before .before .before .before .before .before .before .before .before .before .before .before .before .before .before .before .before .count .ensures .1 ∙ ap (λ (z : ℤ). clamped z (length bytes)) (toZ-ofZ (s .fits .got))))))  -- returns

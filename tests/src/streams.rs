@@ -74,7 +74,12 @@ fn unwritable(count: &mut Count) {
     // The shell leaves a signal ignored that it ignores, and the write then fails with EPIPE.
     let ignored = format!("trap '' PIPE; exec \"{}\"", program().get_program().to_string_lossy());
     let mut deaf = Command::new("/bin/sh");
-    ends(count, "the reader gone, SIGPIPE ignored", deaf.arg("-c").arg(ignored).stdin(example()).stdout(unread()), UNWRITABLE);
+    ends(
+        count,
+        "the reader gone, SIGPIPE ignored",
+        deaf.arg("-c").arg(ignored).stdin(example()).stdout(unread()),
+        UNWRITABLE,
+    );
     let status = program().stdin(example()).stdout(unread()).status().expect("settle-month starts");
     count.case(status.signal() == Some(SIGPIPE), || format!("the reader gone: {}", status));
     count.tried("the reader gone, SIGPIPE as usual: ended by SIGPIPE");

@@ -83,17 +83,11 @@ pub struct Transferred {
     pub table: Table,
 }
 
-// The one function that makes a Table, and the one that takes it apart: both are walked by hand.
+// The one function that makes a Table: it is walked by hand.
 pub fn table_of(rows: [[u64; 4]; 4]) -> Table
     ensures { λ r. ⌜ r .rows ≡ rows ⌝ }
 {
     Table { rows }
-}
-
-pub fn rows_of(table: Table) -> [[u64; 4]; 4]
-    ensures { λ r. ⌜ r ≡ table .rows ⌝ }
-{
-    table.rows
 }
 
 // t shared over four weights.

@@ -3,19 +3,27 @@
  * Link with target/staticlib/librecorder.a, which `rt staticlib recorder` writes (x86-64 Linux). The functions keep
  * nothing between calls, allocate nothing, end on every input, and may be called from any thread.
  *
- * Every call answers a number: 0 when it did what it is for, and otherwise the number of the first question that was
- * answered no (table below). A refusal changes nothing: every list is as it was, the month, or a file's state, is the
- * caller's own, and every other part of the answer but the number is zero.
+ * Every call but iolwarch_file_begin, which has nothing to refuse, answers a number: 0 when it did what it is for, and
+ * otherwise the number of the first question that was answered no (table below). A refusal changes nothing: every list
+ * is as it was, the month, or a file's state, is the caller's own, and every other part of the answer but the number is
+ * zero.
  *
  * Lists. A list is a pointer and its length, counted in elements. The pointer is never NULL, also where the length is
  * 0; it is aligned for its element. During a call nobody else writes to a list that the call reads, or touches a list
  * that the call writes. So a list that a call writes overlaps none of the call's other lists. What figures a list
- * holds is free: no value in it can do harm.
+ * holds is free: no value in it makes a call go wrong. No zero byte is written behind a statement or a text: go by the
+ * length that the call answers.
  *
  * The month goes from call to call by value: keep the one that a call hands back, and pass it to the next. It and the
  * ledger's two lists are all that goes on; plants, profile, metered figures and the allotment list belong to one call.
+ * Leave month and ledger alone between calls: no call can tell that a ledger figure was changed to another inside its
+ * bound, and it is settled on and stated as if it had come from the hours.
  *
  * For a whole month file there is iolwarch_workspace: begin, feed the bytes in parts of any size, finish.
+ *
+ * Stack. A call needs at most IOLWARCH_STACK bytes of its thread's stack, its arguments and its answer included,
+ * whatever the size of the month; settle needs most. The figure is measured on the archive as built (tests/c/stack.c),
+ * has a margin, and is not proved. What signal handlers need on that stack comes on top.
  */
 #ifndef IOLWARCH_H
 #define IOLWARCH_H
@@ -26,6 +34,9 @@
 #ifdef __cplusplus
 extern "C" {
 #endif
+
+/* The stack that a call needs, in bytes. */
+#define IOLWARCH_STACK 98304
 
 /* The numbers, from the questions of document 01. Each line says what must hold; where it does not, its number is
  * answered. P is the number of plants, H the number of periods, TEO the tariff.
@@ -47,13 +58,14 @@ extern "C" {
  *
  *  Settling an hour (2 to 11 are put here too)
  *   12  a month is open
- *   13  as many rows and profile figures are lent as the month has
+ *   13  as many rows and profile figures are lent as the month has (for a statement, rows only)
  *   14  the period due is 1 to H (for a statement, H + 1 passes too)
  *   15  P metered figures are lent
  *   16  each metered figure is at most 2 x 10^9 kWh
  *   17  their sum equals the profile's figure for the period due
  *   18  the allotment list has exactly 4P figures
- *   19  every ledger figure is inside its bound, before and after
+ *   19  every ledger figure is inside its bound, before and after: 0 to 1,488 x 10^9 kWh allotted, nets within
+ *       1,488 x 10^9 kWh of zero, money within 1,488 x 10^13 thousandths of a centavo of zero
  *
  *  Closing, balance, statement
  *   20  the last period is settled, so that H + 1 is due
@@ -164,18 +176,18 @@ typedef struct {
 } iolwarch_place;
 
 /* How far a month file has come: what goes from part to part. iolwarch_file_begin makes the first; keep the one that a
- * feed hands back, and change nothing in it. */
+ * feed hands back, and change nothing in it. In a stage other than those named a field has any value. */
 typedef struct {
-    uint64_t stage;   /* 0 the first line is due, 1 P and H lines, 2 G lines, 3 refused */
-    uint64_t length;  /* bytes of the line that has begun */
-    uint64_t count;   /* lines read */
-    uint64_t plants;  /* P, H and TEO of the first line */
+    uint64_t stage;       /* 0 the first line is due, 1 P and H lines, 2 G lines, 3 refused */
+    uint64_t length;      /* 0 to 2: bytes of the line that has begun */
+    uint64_t count;       /* lines read; 3: up to the one that was refused */
+    uint64_t plants;      /* 1: P, H and TEO of the first line */
     uint64_t periods;
     uint64_t tariff;
-    uint64_t rows;    /* P lines taken */
-    uint64_t figures; /* H lines taken */
-    iolwarch_month month;
-    uint64_t number;  /* of the file's refusal */
+    uint64_t rows;        /* 1: P lines taken */
+    uint64_t figures;     /* 1: H lines taken */
+    iolwarch_month month; /* 2 */
+    uint64_t number;      /* 3: of the refusal */
 } iolwarch_file;
 
 /* The answer of a feed. */
@@ -226,7 +238,8 @@ iolwarch_settled iolwarch_settle(iolwarch_month month,
                                  uint64_t *allotted, size_t allotted_length,
                                  int64_t *accounts, size_t accounts_length);
 
-/* Sums the ledger. After any list of calls from a blank month the two signed sums are zero.
+/* Sums the ledger. After any list of calls from a blank month the two signed sums are zero, if these calls alone have
+ * written to the ledger.
  *
  * Takes    a month that is not blank, and the ledger's lists.
  * Answers  0, the month as it came and the sums, or 21, 2, 11 or 19.
@@ -263,8 +276,8 @@ iolwarch_stated iolwarch_statement(iolwarch_month month,
                                    const int64_t *accounts, size_t accounts_length,
                                    uint8_t *bytes, size_t bytes_length);
 
-/* Sizes a statement: with 128P + 128 bytes lent none is refused with 22, and the statement itself is no longer than
- * the size answered.
+/* Sizes a statement: it has at most so many bytes. Lend statement 128P + 128 bytes all the same, and not the size
+ * answered: 22 asks for as many even where the statement is shorter.
  *
  * Takes    what statement takes, without the bytes.
  * Answers  0, the month as it came and a size between the statement's length and 128P + 128, or a number as for
@@ -294,9 +307,9 @@ iolwarch_line iolwarch_read_line(const uint8_t *line, size_t line_length,
  */
 iolwarch_place iolwarch_field(const uint8_t *line, size_t line_length, uint64_t index);
 
-/* A month file, in parts of any size: begin once, feed each part as it comes, finish after the last. The lists are the
- * caller's, and hold what was read from call to call: lend the same ones each time, and leave them alone in between.
- * Any content will do at the start. iolwarch_workspace, below, has them all.
+/* A month file, in parts of any size: begin once for each file, feed each part as it comes, finish after the last. The
+ * lists are the caller's, and hold what was read from call to call: lend the same ones each time, and leave them alone
+ * in between. Any content will do at the start. iolwarch_workspace, below, has them all.
  *
  *     line                         8,192 bytes   the line that has begun
  *     figures                        513         the figures of a line, in one call
@@ -310,7 +323,12 @@ iolwarch_place iolwarch_field(const uint8_t *line, size_t line_length, uint64_t 
  * Longer lists will do; only so much of them is used. Each call looks over the table and the ledger that are kept, so
  * few long parts are cheaper than many short ones. */
 
-/* The state before the first byte. */
+/* Begins a file.
+ *
+ * Takes    nothing.
+ * Answers  the state before the first byte. It is never refused, so there is no number.
+ * Leaves   nothing changed: it has no list.
+ */
 iolwarch_file iolwarch_file_begin(void);
 
 /* Feeds the next part of the file, of any length, 0 too, cut anywhere.
@@ -319,7 +337,9 @@ iolwarch_file iolwarch_file_begin(void);
  * Answers  0 and the next state; or 30, a list is too short; or 31, state and lists do not fit together; the state is
  *          then as it came. A file that is refused is fed with 0: finish writes its refusal, and no part after it
  *          matters. A state that begin made and only feeds have changed is never met by 31.
- * Leaves   with 0 the lists as the next call needs them; otherwise all of them as they were. The part is only read.
+ * Leaves   with 0 the lists as the next call needs them; what none needs has any content (figures, allotment, and in
+ *          the others what lies past the line, the rows and the figures in use). Otherwise all of them as they were. The
+ *          part is only read.
  */
 iolwarch_fed iolwarch_file_feed(iolwarch_file file,
                                 const uint8_t *part, size_t part_length,
@@ -373,7 +393,7 @@ typedef struct {
     uint8_t text[128 * 512 + 128];
 } iolwarch_workspace;
 
-/* A workspace with any content, before the first byte. */
+/* Before the first byte of each file: the workspace may have any content. */
 static inline void iolwarch_workspace_begin(iolwarch_workspace *w)
 {
     w->file = iolwarch_file_begin();

@@ -1,5 +1,10 @@
-"""Holds docs/RULES.md and README.md to the repository: each definition, theorem, call, must-fail edit and part of the
-comparison that a row names stands where the row says, and README's map has every crate. The last line is 'N passed, M failed'."""
+"""Holds docs/RULES.md, the other documents and the header to the repository: each definition, theorem, call, must-fail edit
+and part of the comparison that a row names stands in the crate that the row names, no row of document 01 has an empty
+cell, each public call has two wrong answers that its contract rules out, each file of a crate that ARCHITECTURE.md or
+DECISIONS.md names is there, ARCHITECTURE.md's table of crates is crates.txt, README's map has every crate,
+include/iolwarch.h declares the exported functions and no other, and no function has a body of 40 lines or a second loop.
+The last line is 'N passed, M failed'."""
+import functools
 import pathlib
 import re
 import sys
@@ -23,12 +28,26 @@ def text(paths):
 
 
 def declares(source, name):
-    """A definition, a record's field or constructor, or a struct of the code under that name."""
+    """A definition, theorem, record, field or constructor of a specs or proofs file, or what the code declares."""
     plain = re.escape(name)
-    return re.search(rf"^\s*(unfoldable |abbrev |private )*(pub )?(record |data |struct |enum |const |fn )?{plain}(?![\w·′-])", source, re.M)
+    stated = rf"^\s*(?:(?:unfoldable|abbrev|private|pub|record|data) )*{plain}(?: [({{].*)? ?:"
+    coded = rf"^\s*(?:pub )?(?:struct|enum|const|fn) {plain}\b"
+    return re.search(f"{stated}|{coded}", source, re.M)
+
+
+@functools.cache
+def code(crate):
+    return text((CRATES / crate / "src").glob("**/*.rt"))
+
+
+@functools.cache
+def theorems(crate):
+    return text(path for part in ("specs", "proofs") for path in (CRATES / crate / part).glob("**/*.antt"))
 
 
 def definition(row, cell):
+    """Answers the crates that the cell names."""
+    crates = []
     for part in cell.split(";"):
         # `crate` File: `name`, `name .field`        or        `crate` `Name`, `Name` for what the code declares
         placed = re.match(r"\s*`(\w+)` (\w+): (.*)", part)
@@ -41,47 +60,130 @@ def definition(row, cell):
         elif coded:
             crate, names = coded.groups()
             source = CRATES / crate / "src" / "lib.rt"
-        elif follows:
+        elif follows and crates:
+            crate = crates[-1]
             file, names = follows.groups()
             source = CRATES / crate / "specs" / f"{file}.antt"
         else:
+            check("`" not in part, f"{row}: cannot read the definition {part.strip()}")
             continue
+        crates.append(crate)
         check(source.is_file(), f"{row}: no file {source.relative_to(ROOT)}")
         if source.is_file():
             for name in re.findall(r"`(?:\w+ )?\.?([^` ]+)(?: \.[^`]+)?`", names):
                 check(declares(source.read_text(), name), f"{row}: {name} does not stand in {source.relative_to(ROOT)}")
+    return crates
 
 
-def main():
-    proofs = text(CRATES.glob("*/proofs/**/*.antt")) + text(CRATES.glob("*/specs/*.antt"))
-    code = text(CRATES.glob("*/src/*.rt"))
-    edits = {path.stem for path in CRATES.glob("*/must-fail/*.edit")}
+def calls(row, cell, crates, public):
+    """`crate::name` stands in that crate, a public call in one of those that row W1 names, any other name in a crate of
+    the row's definitions."""
+    for crate, name in re.findall(r"`(?:(\w+)::)?([a-z_0-9]+)`", cell):
+        if name.startswith("iolwarch_"):
+            check(name in exported(), f"{row}: no exported function {name}")
+        else:
+            where = [crate] if crate else crates + public.get(name, [])
+            homes = [path.name for path in CRATES.iterdir() if re.search(rf"\bfn {name}\b", code(path.name))]
+            check(set(where) & set(homes), f"{row}: no function {name} in {', '.join(where)}; it stands in {', '.join(homes) or 'no crate'}")
+
+
+@functools.cache
+def exported():
+    return set(re.findall(r'pub extern "C" fn (iolwarch_\w+)', text(CRATES.glob("*/src/*.rt"))))
+
+
+def row_of(cells, edits, parts, public):
+    row, _, defined, call, proof, test = cells
+    crates = definition(row, defined)
+    calls(row, call, crates, public)
+    for name in re.findall(r"`([a-z][\w-]*)(?: [^`]*)?`", proof):
+        check(any(declares(theorems(crate), name) for crate in crates), f"{row}: no theorem {name} in {', '.join(crates)}")
+    for names in re.findall(r"edits? ([\w, ]+)", test):
+        for name in names.split(","):
+            check(name.strip() in edits, f"{row}: no must-fail edit {name.strip()}")
+    for names in re.findall(r"compare ([\w, ]+)", re.sub(r"\([^)]*\)", "", test)):
+        for name in names.split(","):
+            check(name.strip() in parts | {"every part"}, f"{row}: no part {name.strip()} of the comparison")
+
+
+def rows():
+    edits = set(re.findall(r"^# (\w+): ", text(CRATES.glob("*/must-fail/*.edit")), re.M))
     parts = set(re.findall(r'\("(\w+)", \w+::run\)', (ROOT / "tests" / "src" / "main.rs").read_text()))
-    rows = [line.strip("|").split("|") for line in (ROOT / "docs" / "RULES.md").read_text().splitlines() if re.match(r"\| [A-Z]\d+", line)]
-    stands = 0
+    lines = (ROOT / "docs" / "RULES.md").read_text().splitlines()
+    table = [[cell.strip() for cell in line.strip("|").split("|")] for line in lines if re.match(r"\| [A-Z]\d+", line)]
+    # row W1 is about every public call
+    (every,) = (cells for cells in table if cells[0] == "W1")
+    crates = re.findall(r"`(\w+)` \w+:", every[2])
+    public = {name: crates for name in re.findall(r"`([a-z_]+)`", every[3])}
     seen = set()
-    for cells in rows:
+    for cells in table:
         check(len(cells) == 6 and cells[0] not in seen, f"row {cells[0]}: six cells, each number once")
+        # a request of document 02 that is not built yet has empty cells; a clause of document 01 has none
+        check(cells[0].startswith("E") or all(cells), f"row {cells[0]}: an empty cell")
         seen.add(cells[0])
-        row, _, defined, call, proof, test = (cell.strip() for cell in cells[:6])
-        definition(row, defined)
-        for name in re.findall(r"`(?:\w+::)?([a-z_0-9]+)`", call):
-            check(re.search(rf"\bfn {name}\b", code), f"{row}: no function {name}")
-        for name in re.findall(r"`([a-z][\w-]*)(?: [^`]*)?`", proof):
-            check(declares(proofs, name), f"{row}: no theorem {name}")
-        for names in re.findall(r"edits? ([\w, ]+)", test):
-            for name in names.split(","):
-                check(name.strip() in edits, f"{row}: no must-fail edit {name.strip()}")
-        for names in re.findall(r"compare ([\w, ]+)", re.sub(r"\([^)]*\)", "", test)):
-            for name in names.split(","):
-                check(name.strip() in parts | {"every part"}, f"{row}: no part {name.strip()} of the comparison")
-        stands += all((defined, call, proof, test))
+        if len(cells) == 6:
+            row_of(cells, edits, parts, public)
+    print(f"{len(seen)} rows, {sum(not row.startswith('E') for row in seen)} of them of document 01")
+
+
+def contracts():
+    """'What each public contract rules out': two wrong answers or more for each public call and for each exported function."""
+    rules = (ROOT / "docs" / "RULES.md").read_text()
+    section = rules.split("## What each public contract rules out")[1].split("\n## ")[0]
+    calls = set()
+    for cells in (line.strip("|").split("|") for line in section.splitlines() if line.startswith("| ")):
+        answers = re.findall(r"(\w+) \(`(\w+)`\)", cells[1])
+        if not answers:
+            continue
+        calls.update(re.findall(r"`(?:\w+::)*(\w+)`", cells[0]))
+        check(len(answers) >= 2, f"{cells[0].strip()}: fewer than two wrong answers")
+        for name, crate in answers:
+            named = re.search(rf"^# {name}: ", text((CRATES / crate / "must-fail").glob("*.edit")), re.M)
+            check(named, f"{cells[0].strip()}: no wrong answer {name} in {crate}/must-fail")
+    (public,) = (line.split("|")[4] for line in rules.splitlines() if line.startswith("| W1 |"))
+    for name in sorted(exported() | set(re.findall(r"`([a-z_]+)`", public))):
+        check(name in calls, f"{name}: no wrong answers in 'What each public contract rules out'")
+
+
+def functions():
+    """No body has 40 lines or a second loop. The signature and the contract, a list a line, do not count."""
+    for path in sorted(CRATES.glob("*/src/**/*.rt")):
+        lines = path.read_text().splitlines()
+        for at, line in enumerate(lines):
+            if found := re.match(r"( *)(?:pub )?(?:extern \"C\" )?fn (\w+)", line):
+                end = lines.index(found[1] + "}", at)
+                start = at if line.endswith("{") else lines.index(found[1] + "{", at)
+                body = lines[start + 1 : end]
+                check(len(body) < 40, f"{path.relative_to(ROOT)}: {found[2]} has a body of {len(body)} lines")
+                check(sum("while " in one for one in body) < 2, f"{path.relative_to(ROOT)}: {found[2]} has a second loop")
+
+
+def documents():
+    """Files of crates as the documents name them: `crate/specs/File`, `crate/proofs/File`, `crate/src/file.rt`, `crate/src`."""
+    for name in ("ARCHITECTURE.md", "DECISIONS.md"):
+        for crate, rest in re.findall(r"`(?:crates/)?([a-z_]+)/((?:specs|proofs|src)[\w./]*)`", (ROOT / "docs" / name).read_text()):
+            path = (ROOT if crate == "tests" else CRATES) / crate / rest
+            check(path.exists() or any(path.with_suffix(end).is_file() for end in (".antt", ".rt")), f"{name}: no {crate}/{rest}")
+    architecture = (ROOT / "docs" / "ARCHITECTURE.md").read_text()
+    for name, named in re.findall(r"^(\w+):(.*)$", (ROOT / "crates.txt").read_text(), re.M):
+        row = re.search(rf"^\| `{name}` \| .* \|(.*)\|$", architecture, re.M)
+        check(row and re.findall(r"`(\w+)`", row[1]) == named.split(), f"ARCHITECTURE.md: the row of {name} is not that of crates.txt")
     readme = (ROOT / "README.md").read_text()
     for crate in sorted(path.name for path in CRATES.iterdir() if path.is_dir()):
         check(f"| `{crate}` |" in readme, f"README's map has no crate {crate}")
-    print(f"{len(rows)} rows, {stands} of them with no empty cell")
-    print(f"{passed} passed, {failed} failed")
-    return 0 if failed == 0 else 1
 
 
-sys.exit(main())
+def header():
+    declared = set(re.findall(r"^\w+ (iolwarch_\w+)\(", (ROOT / "include" / "iolwarch.h").read_text(), re.M))
+    for name in sorted(declared | exported()):
+        check(name in declared, f"include/iolwarch.h does not declare {name}")
+        check(name in exported(), f"no crate exports {name}, which include/iolwarch.h declares")
+
+
+rows()
+contracts()
+documents()
+header()
+functions()
+print(f"{passed} passed, {failed} failed")
+sys.exit(0 if failed == 0 else 1)

@@ -6,7 +6,7 @@
 whose parameters are plain structs by value, u64 numbers, `&[T]`, `&mut [T]` (T = u64, i64 or u8) and one `&[Plant]`. The core takes the
 same parameters in the same order, with n and c where the plants stood. The positions in the walk's context are computed here.
 
-The config (JSON): crate, home (the crate of the types, of columns and of the core, if another), types (the module of the structs, if not the crate's root), walk (true where home has proofs/Walk.antt), fn, core (paths), result (a struct), params (kind struct/num/rows/shr/mut, name, type or of), uses (use lines),
+The config (JSON): crate, home (the crate of the types and of the core, if another), types (the module of the structs, if not the crate's root), walk (true where home has proofs/Walk.antt), fn, core (paths), result (a struct), params (kind struct/num/rows/shr/mut, name, type or of), uses (use lines),
 outer_fact and core_fact (the two `ensures`, over the parameters' names, ps, n, zs, r and w<i>, the last list of the &mut parameter i), and
 carry: the term that proves outer_fact from `wrote : zs ≡ putRows zeros 0 (take 512 ps)` and `e : core_fact`; {w<i>} stands for a last list.
 """
@@ -352,7 +352,7 @@ use denote.Exit.{yes}""")
     A(f"  {nm}-walks = walked 𝓤 H A f.ended stayed (f.clauses 𝓤 H A mem run) (WpFn 𝓤 H (𝓣 .C) (𝓣 .Λ) code.function) (λ κs. {tup(sp)})\n      (λ κs. {tup(tl)})")
     A(f"      (λ κs qs bounds a _ are. via 𝓤 _ (fst∗ 𝓤 _ (emp 𝓤)) (walk 𝓤 H A W mem run {pa} {fa} (𝓣 .C) (𝓣 .Λ) (fmOf 𝓤 H (W .laws) 𝓣) known-c known-g {pi}))\n")
     A(f"  {nm}-meets : Meets 𝓤 H A f.signature (WpFn 𝓤 H (𝓣 .C) (𝓣 .Λ) code.function) (f.spec 𝓤 H A mem run)\n  {nm}-meets =\n      walk-meets 𝓤 H A f.ended stayed W {tup(go)}\n      (f.clauses 𝓤 H A mem run) (WpFn 𝓤 H (𝓣 .C) (𝓣 .Λ) code.function) (WpFn-mono 𝓤 H (W .laws) 𝓣 code.function) {nm}-walks\n")
-    key = lambda path: "·".join([hm] + [x.replace("_", "-") for x in path])
+    key = lambda path: "·".join(x.replace("_", "-") for x in [hm, *path])
     A(f"pub {nm}-spec : {{M : Type 1}} → stated.statement M\nunfolding code.routine tablesOf\n{nm}-spec 𝓤 H 𝓜 𝓖 𝓡 =\n    entered 𝓤 H (tripleOf 𝓤 H (𝓖 .A) f.signature (f.spec 𝓤 H (𝓖 .A) (𝓜 .mem) (𝓡 .run)))\n    (tables 𝓤 H 𝓜 𝓡 code.env .C) (tables 𝓤 H 𝓜 𝓡 code.env .Λ) #f code.function (code.unfolded 𝓤 H 𝓜 𝓡)\n    ({nm}-meets 𝓤 H (𝓖 .A) (givenOf 𝓤 H 𝓜 𝓖) (𝓜 .mem) (𝓡 .run) (tablesOf 𝓤 H 𝓜 (tables 𝓤 H 𝓜 𝓡 code.env))\n    (cited 𝓤 H (Columns 𝓤 H (𝓖 .A) (𝓜 .mem) (𝓡 .run)) 𝓜 𝓡 code.env #c c-def.routine code.calls-records·columns (c-thm.met 𝓤 H 𝓜 𝓖 𝓡))\n    (cited 𝓤 H (Core 𝓤 H (𝓖 .A) (𝓜 .mem) (𝓡 .run)) 𝓜 𝓡 code.env #g g-def.routine code.calls-{key(cfg['core'])} (g-thm.met 𝓤 H 𝓜 𝓖 𝓡)))")
     body = "\n".join(o) + "\n"
     return body.replace("{head}", trimmed(head, body), 1)

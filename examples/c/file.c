@@ -5,12 +5,19 @@
  *   ./file < examples/month.mre
  *
  * It prints the statement, or `R,line,number` where the file is refused. All of it is the library's: the order of the
- * lines, every question and every figure. The exit status is 1 where the output could not be made. */
+ * lines, every question and every figure. Where the input cannot be read or the output not written it says so on
+ * standard error, and the exit status is 1. */
 #include <stdio.h>
 
 #include "iolwarch.h"
 
 static iolwarch_workspace work;
+
+static int fail(const char *what)
+{
+    fprintf(stderr, "file: %s\n", what);
+    return 1;
+}
 
 int main(void)
 {
@@ -20,12 +27,19 @@ int main(void)
     iolwarch_workspace_begin(&work);
     while ((length = fread(part, 1, sizeof part, stdin)) > 0) {
         if (iolwarch_workspace_feed(&work, part, length) != 0) {
-            return 1;
+            return fail("the workspace was changed between two feeds");
         }
     }
-    end = iolwarch_workspace_finish(&work);
-    if (end.number != 0 || ferror(stdin)) {
-        return 1;
+    if (ferror(stdin)) {
+        return fail("standard input cannot be read");
     }
-    return fwrite(work.text, 1, end.length, stdout) == end.length ? 0 : 1;
+    end = iolwarch_workspace_finish(&work);
+    if (end.number != 0) {
+        return fail("the workspace was changed after the last feed");
+    }
+    /* Most of the bytes may still be in stdout's buffer: only after fflush is it known that they were written. */
+    if (fwrite(work.text, 1, end.length, stdout) != end.length || fflush(stdout) != 0) {
+        return fail("standard output cannot be written");
+    }
+    return 0;
 }

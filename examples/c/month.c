@@ -5,8 +5,9 @@
  *   ./month < examples/month.mre
  *
  * It prints the statement, or `R,line,number` where the file is refused: `number` is the question that was answered no
- * (include/iolwarch.h has the list), `line` the line just read. The exit status is then 1. The order of the lines (31)
- * and the limits of the first (2 to 4) are asked here, every other question by the library. */
+ * (include/iolwarch.h has the list), `line` the line just read. The exit status is then 1; so it is, with a line on
+ * standard error, where the input cannot be read or the output not written. The order of the lines (31) and the limits
+ * of the first (2 to 4) are asked here, every other question by the library. */
 #include <inttypes.h>
 #include <stdio.h>
 
@@ -28,8 +29,8 @@ static uint64_t allotted[4 * PLANTS];
 static int64_t accounts[2 * PLANTS];
 static uint8_t statement[128 * PLANTS + 128];
 
-/* Fills `line` up to a byte 10, the file's end, or one byte more than a line may have. Answers how many bytes it took,
- * and in `last` what stopped it. */
+/* Fills `line` up to a byte 10, the file's end or a read error (both EOF), or one byte more than a line may have.
+ * Answers how many bytes it took, and in `last` what stopped it. */
 static size_t next_line(uint8_t line[LINE + 1], int *last)
 {
     size_t length = 0;
@@ -112,8 +113,8 @@ static uint64_t take(const uint8_t *bytes, size_t length, int ended)
     }
 }
 
-/* Prints the statement after close, and answers 0; or answers 31, where the file ends early. */
-static uint64_t finish(void)
+/* Makes the statement after close, and answers 0; or answers 31, where the file ends early. */
+static uint64_t finish(size_t *length)
 {
     iolwarch_end end = iolwarch_close(month);
     iolwarch_stated stated;
@@ -122,8 +123,23 @@ static uint64_t finish(void)
     }
     stated = iolwarch_statement(end.month, table, rows, allotted, 4 * rows, accounts, 2 * rows, statement,
                                 sizeof statement);
-    fwrite(statement, 1, stated.length, stdout);
+    *length = stated.length;
     return stated.number;
+}
+
+/* Prints the refusal, or the statement. Answers whether all of it was written: fflush tells. */
+static int print(uint64_t line, uint64_t number, size_t length)
+{
+    if (number != 0) {
+        return printf("R,%" PRIu64 ",%" PRIu64 "\n", line, number) > 0 && fflush(stdout) == 0;
+    }
+    return fwrite(statement, 1, length, stdout) == length && fflush(stdout) == 0;
+}
+
+static int fail(const char *what)
+{
+    fprintf(stderr, "month: %s\n", what);
+    return 1;
 }
 
 int main(void)
@@ -131,14 +147,18 @@ int main(void)
     uint8_t line[LINE + 1];
     uint64_t count = 0;
     uint64_t number;
+    size_t stated = 0;
     int last;
     do {
         size_t length = next_line(line, &last);
+        if (ferror(stdin)) {
+            return fail("standard input cannot be read");
+        }
         count++;
-        number = length == 0 && last == EOF ? finish() : take(line, length, last == '\n');
+        number = length == 0 && last == EOF ? finish(&stated) : take(line, length, last == '\n');
     } while (number == 0 && last != EOF);
-    if (number != 0) {
-        printf("R,%" PRIu64 ",%" PRIu64 "\n", count, number);
+    if (!print(count, number, stated)) {
+        return fail("standard output cannot be written");
     }
-    return fflush(stdout) == 0 && number == 0 ? 0 : 1;
+    return number == 0 ? 0 : 1;
 }

@@ -1,21 +1,10 @@
-/* Every call of include/iolwarch.h once from C, refused and accepted, with answers worked by hand from document 01. */
+/* Every call of include/iolwarch.h once from C, refused and accepted, with answers worked by hand from document 01; and
+ * each field of its structs by name, with values that tell it from the fields beside it. */
 #include <stdio.h>
 #include <string.h>
 
+#include "check.h"
 #include "iolwarch.h"
-
-static unsigned long passed = 0;
-static unsigned long failed = 0;
-
-static void check(int good, const char *what)
-{
-    if (good) {
-        passed++;
-    } else {
-        failed++;
-        printf("FAILED %s\n", what);
-    }
-}
 
 #define LIMIT (UINT64_C(1) << 62)
 #define HOUR UINT64_C(2000000000)
@@ -76,6 +65,9 @@ static void transfers(void)
     transfer("two givers, the second left with the rest", (iolwarch_by_submarket){{3, 9, 0, 0}},
              (iolwarch_by_submarket){{0, 0, 10, 2}},
              (iolwarch_transferred){0, {{{0, 0, 2, 1}, {0, 0, 8, 1}, {0}, {0}}}});
+    transfer("four kWh figures that differ", (iolwarch_by_submarket){{0, 20, 7, 0}},
+             (iolwarch_by_submarket){{10, 0, 0, 8}},
+             (iolwarch_transferred){0, {{{0}, {7, 0, 0, 6}, {3, 0, 0, 2}, {0}}}});
     transfer("nothing to send", zero, zero, nothing);
     transfer("left at its limit", (iolwarch_by_submarket){{HOUR, 0, 0, 0}}, (iolwarch_by_submarket){{0, HOUR, 0, 0}},
              (iolwarch_transferred){0, {{{0, HOUR, 0, 0}, {0}, {0}, {0}}}});
@@ -169,6 +161,42 @@ static int unsettled(iolwarch_settled answer, iolwarch_month month)
            memcmp(&answer.secondary_table, &none, sizeof none) == 0;
 }
 
+/* Each field of a month, by its name. */
+static void is_month(const char *what, iolwarch_month month, uint64_t stage, uint64_t plants, uint64_t periods,
+                     uint64_t tariff, uint64_t due)
+{
+    check(month.stage == stage, what);
+    check(month.plants == plants, what);
+    check(month.periods == periods, what);
+    check(month.tariff == tariff, what);
+    check(month.due == due, what);
+}
+
+/* A month of five periods with a tariff of 7: from call to call its fields differ from each other. */
+static void month_fields(void)
+{
+    const uint64_t profile[5] = {180, 180, 180, 180, 180};
+    const iolwarch_month closed = {2, 8, 9, 10, 11};
+    lists l = example();
+    iolwarch_end end =
+        iolwarch_open(closed, l.plants, ROWS, profile, 5, 7, l.allotted, 4 * ROWS, l.accounts, 2 * ROWS);
+    iolwarch_settled answer = {0, end.month, 0, 0, {{{0}}}, {{{0}}}};
+    uint64_t due;
+    check(end.number == 0, "five periods opened");
+    is_month("the opened month", end.month, 1, 3, 5, 7, 1);
+    for (due = 2; due <= 6; due++) {
+        answer = iolwarch_settle(answer.month, l.plants, ROWS, profile, 5, l.metered, ROWS, l.allotment, 4 * ROWS,
+                                 l.allotted, 4 * ROWS, l.accounts, 2 * ROWS);
+        check(answer.number == 0, "a period of five settled");
+        is_month("the settled month", answer.month, 1, 3, 5, 7, due);
+        end = iolwarch_close(answer.month);
+        check(end.number == (due == 6 ? 0 : 20), "closed after the fifth period alone");
+        is_month("the month that close hands back", end.month, due == 6 ? 2 : 1, 3, 5, 7, due);
+    }
+    is_month("the month that balance hands back",
+             iolwarch_balance(end.month, l.allotted, 4 * ROWS, l.accounts, 2 * ROWS).month, 2, 3, 5, 7, 6);
+}
+
 /* Open and settle refused: the number, the month as it came, and every list as it was. */
 static void refusals(void)
 {
@@ -210,7 +238,8 @@ static void refusals(void)
  * other order 9 and then 8. */
 static void plant_fields(void)
 {
-    iolwarch_plant plant = {3, 999999, 11, 970000, 900000};
+    iolwarch_plant plant = {
+        .submarket = 3, .number = 999999, .guarantee = 11, .loss = 970000, .availability = 900000};
     const iolwarch_month blank = {0, 0, 0, 0, 0};
     const uint64_t profile[1] = {20};
     const uint64_t wanted[4] = {0, 0, 20, 0};
@@ -310,29 +339,11 @@ static iolwarch_sized size_of(const lists *l, iolwarch_month month, size_t rows)
     return iolwarch_statement_size(month, l->plants, rows, l->allotted, 4 * ROWS, l->accounts, 2 * ROWS);
 }
 
-/* A statement that is written: its bytes at the front, and those behind it as they were; its size in the range. */
-static void written(const char *what, const lists *l, iolwarch_month month, const char *text)
+/* Statement and size answer the number, and the month as it came; the text stands at the front of the bytes, which are
+ * otherwise as they were, as the lists are. Refused, the text is empty; written, its size is in the range. */
+static void states(const char *what, const lists *l, iolwarch_month month, size_t rows, uint64_t number, const char *text)
 {
     const size_t length = strlen(text);
-    const lists before = *l;
-    uint8_t bytes[ROOM + 1];
-    uint8_t wanted[ROOM + 1];
-    iolwarch_sized sized = size_of(l, month, ROWS);
-    iolwarch_stated stated;
-    memset(bytes, 'x', sizeof bytes);
-    memset(wanted, 'x', sizeof wanted);
-    memcpy(wanted, text, length);
-    stated = state(l, month, ROWS, bytes, ROOM);
-    check(stated.number == 0 && stated.length == length && same_month(stated.month, month), what);
-    check(memcmp(bytes, wanted, sizeof bytes) == 0, what);
-    check(sized.number == 0 && same_month(sized.month, month), what);
-    check(length <= sized.size && sized.size <= ROOM, what);
-    check(memcmp(l, &before, sizeof before) == 0, what);
-}
-
-/* Statement and size refused: the number, the month as it came, zeros, and bytes and lists as they were. */
-static void unstated(const char *what, const lists *l, iolwarch_month month, size_t rows, uint64_t number)
-{
     const lists before = *l;
     uint8_t bytes[ROOM + 1];
     uint8_t wanted[ROOM + 1];
@@ -340,10 +351,23 @@ static void unstated(const char *what, const lists *l, iolwarch_month month, siz
     iolwarch_stated stated;
     memset(bytes, 'x', sizeof bytes);
     memset(wanted, 'x', sizeof wanted);
+    memcpy(wanted, text, length);
     stated = state(l, month, rows, bytes, ROOM);
-    check(stated.number == number && stated.length == 0 && same_month(stated.month, month), what);
-    check(sized.number == number && sized.size == 0 && same_month(sized.month, month), what);
-    check(memcmp(bytes, wanted, sizeof bytes) == 0 && memcmp(l, &before, sizeof before) == 0, what);
+    check(stated.number == number && stated.length == length && same_month(stated.month, month), what);
+    check(memcmp(bytes, wanted, sizeof bytes) == 0, what);
+    check(sized.number == number && same_month(sized.month, month), what);
+    check(number == 0 ? length <= sized.size && sized.size <= ROOM : sized.size == 0, what);
+    check(memcmp(l, &before, sizeof before) == 0, what);
+}
+
+static void written(const char *what, const lists *l, iolwarch_month month, const char *text)
+{
+    states(what, l, month, ROWS, 0, text);
+}
+
+static void unstated(const char *what, const lists *l, iolwarch_month month, size_t rows, uint64_t number)
+{
+    states(what, l, month, rows, number, "");
 }
 
 /* The example month's statement: opened, settled and closed; a byte too few; and refused, whatever is asked first. */
@@ -431,6 +455,54 @@ static void printed(const char *what, const char *file, size_t size, const char 
     check(work.text[end.length] == 'x' && work.text[sizeof work.text - 1] == 'x', what);
 }
 
+static void feed(const char *what, const char *part)
+{
+    check(iolwarch_workspace_feed(&work, (const uint8_t *)part, strlen(part)) == 0, what);
+}
+
+/* The fields of a file's state that mean something in stage 1, each by its name. */
+static void gathers(const char *what, uint64_t length, uint64_t count, uint64_t rows, uint64_t figures)
+{
+    check(work.file.stage == 1, what);
+    check(work.file.length == length, what);
+    check(work.file.count == count, what);
+    check(work.file.plants == 5, what);
+    check(work.file.periods == 7, what);
+    check(work.file.tariff == 1300, what);
+    check(work.file.rows == rows, what);
+    check(work.file.figures == figures, what);
+}
+
+/* A file cut inside a P line, an H line and a G line, and then refused: state and lists by their names. Over the cuts no
+ * two fields have the same values. */
+static void file_fields(void)
+{
+    iolwarch_sums sums;
+    memset(&work, 'x', sizeof work);
+    iolwarch_workspace_begin(&work);
+    feed("P lines", "MRE,1,7,5,1300\nP,1,10,100,1000000,1000000\nP,1,11,50,1000000,1000000\nP,2,20,60");
+    gathers("inside the third P line", 9, 3, 2, 0);
+    check(memcmp(work.line, "P,2,20,60", 9) == 0, "the line that has begun");
+    feed("H lines", ",970000,900000\nP,3,30,61,1000000,1000000\nP,4,40,62,1000000,1000000\nH,1,180\nH,2,181\n"
+                    "H,3,");
+    gathers("inside the third H line", 4, 8, 5, 2);
+    check(work.submarket[2] == 2 && work.number[2] == 20 && work.guarantee[2] == 60, "the third row");
+    check(work.loss[2] == 970000 && work.availability[2] == 900000, "the third row's factors");
+    feed("G lines", "182\nH,4,183\nH,5,184\nH,6,185\nH,7,186\nG,1,130,20,30,0,0\nG,2,131,20,30,0,0\nG,3,1");
+    check(work.file.stage == 2 && work.file.length == 5 && work.file.count == 15, "inside the third G line");
+    is_month("the month of the file", work.file.month, 1, 5, 7, 1300, 3);
+    check(work.profile[0] == 180 && work.profile[6] == 186, "the profile of the file");
+    sums = iolwarch_balance(work.file.month, work.allotted, 20, work.accounts, 10);
+    check(sums.number == 0 && sums.columns[0] + sums.columns[1] + sums.columns[2] + sums.columns[3] == 361 &&
+              sums.net == 0 && sums.money == 0 && work.accounts[0] != 0 &&
+              work.accounts[1] == 1300 * work.accounts[0],
+          "the ledger of two hours");
+    feed("a G line of one plant", "\n");
+    check(work.file.stage == 3 && work.file.count == 16 && work.file.number == 15, "refused at line 16");
+    feed("a part after the refusal", "G,3,1\nG");
+    check(work.file.stage == 3 && work.file.count == 16 && work.file.number == 15, "refused still");
+}
+
 /* Feed and finish refused: the number, and state, lists and text as they were. */
 static void unknown(const char *what, uint64_t number)
 {
@@ -500,12 +572,13 @@ int main(void)
     sharing();
     transfers();
     months();
+    month_fields();
     refusals();
     plant_fields();
     example_month();
     statements();
     lines();
     files();
-    printf("%lu passed, %lu failed\n", passed, failed);
-    return failed == 0 && passed > 0 ? 0 : 1;
+    file_fields();
+    return counted();
 }

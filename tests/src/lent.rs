@@ -1,5 +1,6 @@
 //! A list that is lent to a call lies between two known figures, which must stay: a write outside the list is seen.
 
+#[derive(Clone, PartialEq)]
 pub struct Lent<T> {
     all: Vec<T>,
     around: T,
@@ -16,6 +17,12 @@ impl<T: Copy + PartialEq> Lent<T> {
     pub fn list(&mut self) -> &mut [T] {
         let end = self.all.len() - 1;
         &mut self.all[1..end]
+    }
+
+    /// A shorter list: the first figures of this one.
+    pub fn shorten(&mut self, length: usize) {
+        self.all.truncate(length + 1);
+        self.all.push(self.around);
     }
 
     /// The list as it is now, and whether what stands around it stayed.

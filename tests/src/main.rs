@@ -8,6 +8,7 @@
 
 mod count;
 mod damage;
+mod feeds;
 mod files;
 mod lent;
 mod limits;
@@ -31,7 +32,7 @@ const CALLS: u64 = 200_000;
 
 type Part = (&'static str, fn(&mut count::Count));
 
-const RECORDER: [Part; 8] = [
+const RECORDER: [Part; 9] = [
     ("share", share::run),
     ("transfer", transfer::run),
     ("lines", lines::run),
@@ -40,6 +41,7 @@ const RECORDER: [Part; 8] = [
     ("limits", limits::run),
     ("worked", worked::run),
     ("files", files::run),
+    ("feeds", feeds::run),
 ];
 
 const PROGRAM: [Part; 3] = [("months", months::run), ("damage", damage::run), ("streams", streams::run)];

@@ -4,8 +4,8 @@
 /// One figure for each of submarkets 1 to 4.
 #[repr(C)]
 #[derive(Clone, Copy)]
-struct BySubmarket {
-    kwh: [u64; 4],
+pub struct BySubmarket {
+    pub kwh: [u64; 4],
 }
 
 /// A transfer table, giver by receiver.
@@ -104,6 +104,38 @@ pub struct FieldPlace {
     pub length: u64,
 }
 
+/// How far a month file has come; stage 0 the first line is due, 1 P and H lines, 2 G lines, 3 refused.
+#[repr(C)]
+#[derive(Clone, Copy, PartialEq, Eq, Debug)]
+pub struct File {
+    pub stage: u64,
+    pub length: u64,
+    pub count: u64,
+    pub plants: u64,
+    pub periods: u64,
+    pub tariff: u64,
+    pub rows: u64,
+    pub figures: u64,
+    pub month: Month,
+    pub number: u64,
+}
+
+/// The answer of a feed.
+#[repr(C)]
+#[derive(Clone, Copy, PartialEq, Eq, Debug)]
+pub struct Fed {
+    pub number: u64,
+    pub file: File,
+}
+
+/// The answer of a finish.
+#[repr(C)]
+#[derive(Clone, Copy, PartialEq, Eq, Debug)]
+pub struct Finished {
+    pub number: u64,
+    pub length: u64,
+}
+
 /// The answer of the transfer step.
 #[repr(C)]
 #[derive(Clone, Copy, PartialEq, Eq, Debug)]
@@ -112,188 +144,114 @@ pub struct Transferred {
     pub table: Table,
 }
 
-extern "C" {
-    fn iolwarch_share(
-        total: u64,
-        weights: *const u64,
-        weights_length: usize,
-        parts: *mut u64,
-        parts_length: usize,
-    ) -> u64;
-    fn iolwarch_transfer(left: BySubmarket, need: BySubmarket) -> Transferred;
-    fn iolwarch_open(
-        month: Month,
-        plants: *const Plant,
-        plants_length: usize,
-        profile: *const u64,
-        profile_length: usize,
-        tariff: u64,
-        allotted: *mut u64,
-        allotted_length: usize,
-        accounts: *mut i64,
-        accounts_length: usize,
-    ) -> End;
-    fn iolwarch_settle(
-        month: Month,
-        plants: *const Plant,
-        plants_length: usize,
-        profile: *const u64,
-        profile_length: usize,
-        metered: *const u64,
-        metered_length: usize,
-        allotment: *mut u64,
-        allotment_length: usize,
-        allotted: *mut u64,
-        allotted_length: usize,
-        accounts: *mut i64,
-        accounts_length: usize,
-    ) -> Hour;
-    fn iolwarch_balance(
-        month: Month,
-        allotted: *const u64,
-        allotted_length: usize,
-        accounts: *const i64,
-        accounts_length: usize,
-    ) -> Sums;
-    fn iolwarch_close(month: Month) -> End;
-    fn iolwarch_statement(
-        month: Month,
-        plants: *const Plant,
-        plants_length: usize,
-        allotted: *const u64,
-        allotted_length: usize,
-        accounts: *const i64,
-        accounts_length: usize,
-        bytes: *mut u8,
-        bytes_length: usize,
-    ) -> Stated;
-    fn iolwarch_statement_size(
-        month: Month,
-        plants: *const Plant,
-        plants_length: usize,
-        allotted: *const u64,
-        allotted_length: usize,
-        accounts: *const i64,
-        accounts_length: usize,
-    ) -> Size;
-    fn iolwarch_read_line(line: *const u8, line_length: usize, figures: *mut u64, figures_length: usize) -> Line;
-    fn iolwarch_field(line: *const u8, line_length: usize, index: u64) -> FieldPlace;
+/// A call of the C interface, said once: a list goes to C as a pointer and its length, all else by value. A slice is a
+/// valid pointer and length, and what is written is borrowed alone, so no lists overlap.
+macro_rules! call {
+    ($(#[$doc:meta])* $name:ident = $symbol:ident($($given:tt)*) -> $answer:ty) => {
+        call!(@ [$(#[$doc])* $name $symbol $answer] [] [] [] $($given)*);
+    };
+    (@ $call:tt [$($rust:tt)*] [$($c:tt)*] [$($sent:tt)*] $list:ident: &mut [$of:ty], $($rest:tt)*) => {
+        call!(@ $call [$($rust)* $list: &mut [$of],] [$($c)* $list: *mut $of, _: usize,]
+            [$($sent)* $list.as_mut_ptr(), $list.len(),] $($rest)*);
+    };
+    (@ $call:tt [$($rust:tt)*] [$($c:tt)*] [$($sent:tt)*] $list:ident: &[$of:ty], $($rest:tt)*) => {
+        call!(@ $call [$($rust)* $list: &[$of],] [$($c)* $list: *const $of, _: usize,]
+            [$($sent)* $list.as_ptr(), $list.len(),] $($rest)*);
+    };
+    (@ $call:tt [$($rust:tt)*] [$($c:tt)*] [$($sent:tt)*] $value:ident: $of:ty, $($rest:tt)*) => {
+        call!(@ $call [$($rust)* $value: $of,] [$($c)* $value: $of,] [$($sent)* $value,] $($rest)*);
+    };
+    (@ [$(#[$doc:meta])* $name:ident $symbol:ident $answer:ty] [$($rust:tt)*] [$($c:tt)*] [$($sent:tt)*]) => {
+        $(#[$doc])*
+        pub fn $name($($rust)*) -> $answer {
+            extern "C" {
+                fn $symbol($($c)*) -> $answer;
+            }
+            unsafe { $symbol($($sent)*) }
+        }
+    };
 }
 
-// In each call below a slice is a valid pointer and length; what is written is borrowed alone, so no lists overlap.
-
-/// Shares `total` over `weights` into `parts`; the answer is the number.
-pub fn share(total: u64, weights: &[u64], parts: &mut [u64]) -> u64 {
-    unsafe { iolwarch_share(total, weights.as_ptr(), weights.len(), parts.as_mut_ptr(), parts.len()) }
+call! {
+    /// Shares `total` over `weights` into `parts`; the answer is the number.
+    share = iolwarch_share(total: u64, weights: &[u64], parts: &mut [u64],) -> u64
 }
 
-/// The transfer step: what four submarkets have left meets what they need.
+call! {
+    /// The transfer step: what four submarkets have left meets what they need.
+    transfer_by = iolwarch_transfer(left: BySubmarket, need: BySubmarket,) -> Transferred
+}
+
 pub fn transfer(left: [u64; 4], need: [u64; 4]) -> Transferred {
-    unsafe { iolwarch_transfer(BySubmarket { kwh: left }, BySubmarket { kwh: need }) }
+    transfer_by(BySubmarket { kwh: left }, BySubmarket { kwh: need })
 }
 
-/// Opens a month.
-pub fn open(
-    month: Month,
-    plants: &[Plant],
-    profile: &[u64],
-    tariff: u64,
-    allotted: &mut [u64],
-    accounts: &mut [i64],
-) -> End {
-    unsafe {
-        iolwarch_open(
-            month,
-            plants.as_ptr(),
-            plants.len(),
-            profile.as_ptr(),
-            profile.len(),
-            tariff,
-            allotted.as_mut_ptr(),
-            allotted.len(),
-            accounts.as_mut_ptr(),
-            accounts.len(),
-        )
-    }
+call! {
+    /// Opens a month.
+    open = iolwarch_open(
+        month: Month, plants: &[Plant], profile: &[u64], tariff: u64, allotted: &mut [u64], accounts: &mut [i64],
+    ) -> End
 }
 
-/// Settles the period due.
-pub fn settle(
-    month: Month,
-    plants: &[Plant],
-    profile: &[u64],
-    metered: &[u64],
-    allotment: &mut [u64],
-    allotted: &mut [u64],
-    accounts: &mut [i64],
-) -> Hour {
-    unsafe {
-        iolwarch_settle(
-            month,
-            plants.as_ptr(),
-            plants.len(),
-            profile.as_ptr(),
-            profile.len(),
-            metered.as_ptr(),
-            metered.len(),
-            allotment.as_mut_ptr(),
-            allotment.len(),
-            allotted.as_mut_ptr(),
-            allotted.len(),
-            accounts.as_mut_ptr(),
-            accounts.len(),
-        )
-    }
+call! {
+    /// Settles the period due.
+    settle = iolwarch_settle(
+        month: Month, plants: &[Plant], profile: &[u64], metered: &[u64],
+        allotment: &mut [u64], allotted: &mut [u64], accounts: &mut [i64],
+    ) -> Hour
 }
 
-/// Sums the ledger's columns.
-pub fn balance(month: Month, allotted: &[u64], accounts: &[i64]) -> Sums {
-    unsafe { iolwarch_balance(month, allotted.as_ptr(), allotted.len(), accounts.as_ptr(), accounts.len()) }
+call! {
+    /// Sums the ledger's columns.
+    balance = iolwarch_balance(month: Month, allotted: &[u64], accounts: &[i64],) -> Sums
 }
 
-/// Ends the month.
-pub fn close(month: Month) -> End {
-    unsafe { iolwarch_close(month) }
+call! {
+    /// Ends the month.
+    close = iolwarch_close(month: Month,) -> End
 }
 
-/// Writes the statement to the front of `bytes`.
-pub fn statement(month: Month, plants: &[Plant], allotted: &[u64], accounts: &[i64], bytes: &mut [u8]) -> Stated {
-    unsafe {
-        iolwarch_statement(
-            month,
-            plants.as_ptr(),
-            plants.len(),
-            allotted.as_ptr(),
-            allotted.len(),
-            accounts.as_ptr(),
-            accounts.len(),
-            bytes.as_mut_ptr(),
-            bytes.len(),
-        )
-    }
+call! {
+    /// Writes the statement to the front of `bytes`.
+    statement = iolwarch_statement(
+        month: Month, plants: &[Plant], allotted: &[u64], accounts: &[i64], bytes: &mut [u8],
+    ) -> Stated
 }
 
-/// A number of bytes that the statement does not pass.
-pub fn size(month: Month, plants: &[Plant], allotted: &[u64], accounts: &[i64]) -> Size {
-    unsafe {
-        iolwarch_statement_size(
-            month,
-            plants.as_ptr(),
-            plants.len(),
-            allotted.as_ptr(),
-            allotted.len(),
-            accounts.as_ptr(),
-            accounts.len(),
-        )
-    }
+call! {
+    /// A number of bytes that the statement does not pass.
+    size = iolwarch_statement_size(month: Month, plants: &[Plant], allotted: &[u64], accounts: &[i64],) -> Size
 }
 
-/// Reads a line, its end byte 10 removed.
-pub fn read_line(line: &[u8], figures: &mut [u64]) -> Line {
-    unsafe { iolwarch_read_line(line.as_ptr(), line.len(), figures.as_mut_ptr(), figures.len()) }
+call! {
+    /// Reads a line, its end byte 10 removed.
+    read_line = iolwarch_read_line(line: &[u8], figures: &mut [u64],) -> Line
 }
 
-/// A field of a line, counted from 0.
-pub fn field(line: &[u8], index: u64) -> FieldPlace {
-    unsafe { iolwarch_field(line.as_ptr(), line.len(), index) }
+call! {
+    /// A field of a line, counted from 0.
+    field = iolwarch_field(line: &[u8], index: u64,) -> FieldPlace
+}
+
+call! {
+    /// A month file before its first byte.
+    begin = iolwarch_file_begin() -> File
+}
+
+call! {
+    /// Feeds the next part of a month file.
+    feed = iolwarch_file_feed(
+        file: File, part: &[u8], line: &mut [u8], figures: &mut [u64],
+        submarket: &mut [u64], number: &mut [u64], guarantee: &mut [u64], loss: &mut [u64], availability: &mut [u64],
+        profile: &mut [u64], allotment: &mut [u64], allotted: &mut [u64], accounts: &mut [i64],
+    ) -> Fed
+}
+
+call! {
+    /// Ends a month file: its statement or its refusal goes to the front of `text`.
+    finish = iolwarch_file_finish(
+        file: File, line: &[u8], figures: &mut [u64],
+        submarket: &[u64], number: &[u64], guarantee: &[u64], loss: &[u64], availability: &[u64],
+        profile: &[u64], allotted: &[u64], accounts: &[i64], text: &mut [u8],
+    ) -> Finished
 }

@@ -1,91 +1,41 @@
 -- Steps 4 to 7 for any lawful rule of sharing: what four submarkets have meets what the plants want. Assumes nothing.
-use mathlib.Core.Path.{_≡_, refl, sym, ap, _∙_, subst}
-use Prim.Native.Nat.{ℕ, zero, suc, _+_, _-_, _*_, _^_, min, max, _≤_}
+use mathlib.Core.Path.{_≡_, refl, sym, _∙_, subst}
+use Prim.Native.Nat.{ℕ, zero, suc, _+_, _-_, _*_, _^_, min, _≤_}
 use native.Mathlib.Omega.{arith}
 use mathlib.Core.List.{List, [], _∷_, map}
 use lib.ListN.{length, getD, length-map, List·getD-map}
-use Rattle.lists.specs.Columns.{_⊕_, _⊖_, _⊓_, joined, inside, within, four, at, totals}
+use Rattle.lists.specs.Columns.{_⊕_, _⊖_, _⊓_, joined, within, at, totals}
 use Rattle.lists.specs.Lists.{sum}
-use Rattle.lists.proofs.Columns.{_!_, length-rowwise, at-⊕, at-⊖, at-⊓, sum-⊕, sum-⊖, sum-ext, sum-tight, sum-joined, at-map-sum, joined-four, transpose-at, transpose-sum, each, at-within, within-⊖, within-nil, within-joined, Sited, sited-le, totals-sum, totals-ext, totals-is, at-totals, at-joined, Only, only}
+use Rattle.lists.proofs.Columns.{_!_, length-rowwise, at-⊕, at-⊖, at-⊓, sum-⊕, sum-⊖, sum-ext, sum-tight, sum-joined, at-map-sum, joined-four, transpose-at, transpose-sum, within-⊖, within-nil, within-joined, Sited, sited-le, totals-sum, totals-ext, totals-is, at-totals, at-joined}
 use Rattle.lists.proofs.Sums.{at-le-sum}
 use Rattle.lists.proofs.Questions.{every-all, at-most-all}
-use Rattle.sharing.specs.Laws.{Lawful, rowSum}
-use Rattle.sharing.specs.Sharing.{Rule, serve, transfer}
-use Rattle.sharing.specs.Calls.{apart}
-use Rattle.sharing.proofs.Sharing.{adds-le}
-use Rattle.sharing.proofs.Served.{length-serve, serve-adds, serve-under, transfer-rows}
-use Rattle.sharing.proofs.Asked.{Transferable}
-use Rattle.cover.specs.Cover.{portion, own, ownParts, table, got, rest}
+use Rattle.sharing.specs.Laws.{Lawful}
+use Rattle.transfer.specs.Laws.{rowSum}
+use Rattle.sharing.specs.Sharing.{Rule}
+use Rattle.transfer.specs.Transfer.{serve, transfer}
+use Rattle.transfer.specs.Calls.{apart}
+use Rattle.transfer.proofs.Served.{length-serve, serve-adds, serve-under, transfer-rows}
+use Rattle.transfer.proofs.Asked.{Transferable}
+use Rattle.blocks.specs.Portion.{portion}
+use Rattle.blocks.proofs.Portion.{Fits, portion-under, portion-adds, portion-sized}
+use Rattle.cover.specs.Cover.{own, ownParts, table, got, rest}
 use borrow.Author.Tests.{eq-eqb}
 use lib.Dec.{eqb}
 
 module _ {rule : Rule} (L : Lawful rule) where
   module _ (subs : List ℕ) where
-    -- each submarket's amount is no more than the weights of its rows
-    abbrev pub Fits : List ℕ → List ℕ → Type 0
-    Fits amounts ws = (s : ℕ) → 1 ≤ s → s ≤ 4 → at s amounts 0 ≤ sum (within s subs ws)
-
-    module _ (amounts ws : List ℕ) (fits : Fits amounts ws) where
-      q : ℕ → List ℕ
-      q s = rule (at s amounts 0) (within s subs ws)
-
-      at-portion : (i : ℕ) → portion rule subs amounts ws ! i ≡ q 1 ! i + q 2 ! i + q 3 ! i + q 4 ! i
-      unfolding portion q
-      at-portion i = joined-four (four q) refl i
-
-      q-under : (s : ℕ) → 1 ≤ s → s ≤ 4 → (i : ℕ) → q s ! i ≤ inside s (subs ! i) (ws ! i)
-      unfolding q
-      q-under s l h i = let a = L .bounded (at s amounts 0) (within s subs ws) (fits s l h) i in let b = at-within s subs ws i in omega arith
-
-      only-own : (i : ℕ) → Only (subs ! i) (ws ! i) (q 1 ! i) (q 2 ! i) (q 3 ! i) (q 4 ! i)
-      only-own i =
-          only (subs ! i) (ws ! i) (q 1 ! i) (q 2 ! i) (q 3 ! i) (q 4 ! i)
-          (q-under 1 (omega arith) (omega arith) i) (q-under 2 (omega arith) (omega arith) i)
-          (q-under 3 (omega arith) (omega arith) i) (q-under 4 (omega arith) (omega arith) i)
-
-      pub portion-under : (i : ℕ) → portion rule subs amounts ws ! i ≤ ws ! i
-      portion-under i = let a = at-portion i in let b = only-own i in omega arith
-
-      portion-within : (s : ℕ) → 1 ≤ s → s ≤ 4 → (i : ℕ) → within s subs (portion rule subs amounts ws) ! i ≡ q s ! i
-      portion-within s l h i = at-within s subs (portion rule subs amounts ws) i ∙ ap (inside s (subs ! i)) (at-portion i) ∙ go s l h
-        where
-          go : (s : ℕ) → 1 ≤ s → s ≤ 4 → inside s (subs ! i) (q 1 ! i + q 2 ! i + q 3 ! i + q 4 ! i) ≡ q s ! i
-          go = each _ (only-own i .in1) (only-own i .in2) (only-own i .in3) (only-own i .in4)
-
-      pub portion-adds : (s : ℕ) → 1 ≤ s → s ≤ 4 → sum (within s subs (portion rule subs amounts ws)) ≡ at s amounts 0
-      unfolding q
-      portion-adds s l h =
-          sum-ext (within s subs (portion rule subs amounts ws)) (q s) (portion-within s l h)
-          ∙ adds-le L (at s amounts 0) (within s subs ws) (fits s l h)
-
-    -- as many parts as there are rows
-    pub portion-sized : (amounts ws : List ℕ) → length (portion rule subs amounts ws) ≡ max (length subs) (length ws)
-    unfolding portion joined
-    portion-sized amounts ws =
-        both (q 1) (q 2 ⊕ (q 3 ⊕ (q 4 ⊕ []))) (p 1) (both (q 2) (q 3 ⊕ (q 4 ⊕ [])) (p 2) (both (q 3) (q 4 ⊕ []) (p 3)
-        (length-rowwise _+_ 0 0 (q 4) [] ∙ (let a = p 4 in omega arith))))
-      where
-        q : ℕ → List ℕ
-        q s = rule (at s amounts 0) (within s subs ws)
-
-        p : (s : ℕ) → length (q s) ≡ max (length subs) (length ws)
-        p s = L .sized (at s amounts 0) (within s subs ws) ∙ length-rowwise (inside s) 0 0 subs ws
-
-        both : {n : ℕ} (xs ys : List ℕ) → length xs ≡ n → length ys ≡ n → length (xs ⊕ ys) ≡ n
-        both {n} xs ys a b = length-rowwise _+_ 0 0 xs ys ∙ (omega arith)
-
     spread-sized : (rows : List (List ℕ)) (ws : List ℕ) (g : ℕ) → length ws ≤ length subs
         → length (getD (serve (portion rule subs) ws rows) g []) ≤ length subs
     unfolding serve
     spread-sized [] ws g h = omega arith
-    spread-sized (row ∷ rows) ws zero h = let a = portion-sized row ws in omega arith
+    spread-sized (row ∷ rows) ws zero h = let a = portion-sized L subs row ws in omega arith
     spread-sized (row ∷ rows) ws (suc g) h =
         spread-sized rows (ws ⊖ portion rule subs row ws) g
-        (let a = portion-sized row ws in let b = length-rowwise _-_ 0 0 ws (portion rule subs row ws) in omega arith)
+        (let a = portion-sized L subs row ws in let b = length-rowwise _-_ 0 0 ws (portion rule subs row ws) in omega arith)
 
     pub own-sized : (have want : List ℕ) → length want ≤ length subs → length (ownParts rule subs have want) ≤ length subs
     unfolding ownParts
-    own-sized have want h = let a = portion-sized (own rule subs have want) want in omega arith
+    own-sized have want h = let a = portion-sized L subs (own rule subs have want) want in omega arith
 
     pub got-sized : (have want : List ℕ) (g : ℕ) → length want ≤ length subs → length (getD (got rule subs have want) g []) ≤ length subs
     unfolding got
@@ -98,7 +48,7 @@ module _ {rule : Rule} (L : Lawful rule) where
     FitsAll rows ws = (s : ℕ) → 1 ≤ s → s ≤ 4 → sum (map (λ r. at s r 0) rows) ≤ sum (within s subs ws)
 
     module _ (row : List ℕ) (rows : List (List ℕ)) (ws : List ℕ) (fits : FitsAll (row ∷ rows) ws) where
-      fits-first : Fits row ws
+      fits-first : Fits L subs row ws
       unfolding sum
       fits-first s l h = let a = fits s l h in omega arith
 
@@ -106,8 +56,8 @@ module _ {rule : Rule} (L : Lawful rule) where
       unfolding sum
       fits-then s l h =
           let a = fits s l h in
-          let b = within-⊖ s subs ws (portion rule subs row ws) (portion-under row ws fits-first) in
-          let c = portion-adds row ws fits-first s l h in
+          let b = within-⊖ s subs ws (portion rule subs row ws) (portion-under L subs row ws fits-first) in
+          let c = portion-adds L subs row ws fits-first s l h in
           omega arith
 
     spread-under : (rows : List (List ℕ)) (ws : List ℕ) → FitsAll rows ws → (i : ℕ) → joined (serve (portion rule subs) ws rows) ! i ≤ ws ! i
@@ -118,14 +68,14 @@ module _ {rule : Rule} (L : Lawful rule) where
         let k = spread-under rows (ws ⊖ p) (fits-then row rows ws fits) i in
         let a = at-⊕ p (joined (serve (portion rule subs) (ws ⊖ p) rows)) i in
         let b = at-⊖ ws p i in
-        let c = portion-under row ws (fits-first row rows ws fits) i in
+        let c = portion-under L subs row ws (fits-first row rows ws fits) i in
         omega arith
 
     spread-adds : (rows : List (List ℕ)) (ws : List ℕ) → FitsAll rows ws → (g s : ℕ) → 1 ≤ s → s ≤ 4
         → sum (within s subs (getD (serve (portion rule subs) ws rows) g [])) ≡ at s (getD rows g []) 0
     unfolding serve
     spread-adds [] ws fits g s l h = within-nil s subs
-    spread-adds (row ∷ rows) ws fits zero s l h = portion-adds row ws (fits-first row rows ws fits) s l h
+    spread-adds (row ∷ rows) ws fits zero s l h = portion-adds L subs row ws (fits-first row rows ws fits) s l h
     spread-adds (row ∷ rows) ws fits (suc g) s l h = spread-adds rows (ws ⊖ portion rule subs row ws) (fits-then row rows ws fits) g s l h
 
 -- What steps 4 to 6 come to

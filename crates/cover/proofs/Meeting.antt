@@ -15,14 +15,15 @@ use Rattle.lists.proofs.Columns.{_!_, at-⊕, at-⊖, at-⊓, sum-le, at-within
 use Rattle.lists.proofs.Sums.{at-le-sum}
 use Rattle.lists.proofs.Rows.{Even, column-at, column-byRow, length-byRow}
 use Rattle.sharing.specs.Sharing.{share}
-use Rattle.sharing.specs.Laws.{rowSum}
+use Rattle.transfer.specs.Laws.{rowSum}
 use Rattle.sharing.proofs.Sharing.{share-lawful}
-use Rattle.sharing.proofs.Served.{four-is}
+use Rattle.transfer.proofs.Served.{four-is}
 use Rattle.cover.specs.Cover.{own, ownParts, table, got, rest, supplied}
-use Rattle.cover.specs.Blocks.{standingAt, Rising, Raised, inColumns, gotBy, SentWithin, Room}
+use Rattle.blocks.specs.Blocks.{standingAt, Rising, Raised, inColumns, Room}
+use Rattle.cover.specs.Givers.{gotBy, SentWithin}
 use Rattle.cover.proofs.Cover.{own-sized, got-sized, four-rows, sent-is, row-is, row-under}
-use Rattle.cover.proofs.Slices.{standing-length, standing-le, standing-ge}
-use Rattle.cover.proofs.Handed.{split}
+use Rattle.blocks.proofs.Slices.{standing-length, standing-le, standing-ge}
+use Rattle.blocks.proofs.Handed.{split}
 use Rattle.cover.proofs.Serving.{parts-under, totals-fall, room-kept}
 
 pub four-⊓ : (xs ys : List ℕ) → length xs ≡ 4 → length ys ≡ 4

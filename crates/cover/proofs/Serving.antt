@@ -14,13 +14,15 @@ use borrow.Author.Tests.{eq-eqb, ne-eqb}
 use Rattle.lists.specs.Lists.{sum, Within}
 use Rattle.lists.specs.Columns.{_⊖_, Below, within, at, totals}
 use Rattle.lists.proofs.Columns.{_!_, at-⊖, at-totals, within-⊖, sum-⊖, length-rowwise}
-use Rattle.sharing.specs.Sharing.{Rule, share, serve}
+use Rattle.sharing.specs.Sharing.{Rule, share}
+use Rattle.transfer.specs.Transfer.{serve}
 use Rattle.sharing.specs.Laws.{Lawful}
 use Rattle.sharing.proofs.Sharing.{share-lawful}
-use Rattle.cover.specs.Cover.{portion}
-use Rattle.cover.specs.Blocks.{Raised, inColumn, inColumns, gotBy, SentWithin, Room}
-use Rattle.cover.proofs.Cover.{Fits, portion-under, portion-adds}
-use Rattle.cover.proofs.Handed.{same-or-not, past-take, next-here, next-there}
+use Rattle.blocks.specs.Portion.{portion}
+use Rattle.blocks.specs.Blocks.{Raised, inColumn, inColumns, Room}
+use Rattle.cover.specs.Givers.{gotBy, SentWithin}
+use Rattle.blocks.proofs.Portion.{Fits, portion-under, portion-adds}
+use Rattle.blocks.proofs.Handed.{same-or-not, past-take, next-here, next-there}
 
 -- ---- one giver
 module _ {rule : Rule} (L : Lawful rule) (subs amounts want : List ℕ) (fits : (j : ℕ) → amounts ! j ≤ totals subs want ! j) where

@@ -1,3 +1,3 @@
 -- Own cover, the transfer table, and what each plant got.
 pub mod Cover
-pub mod Blocks
+pub mod Givers

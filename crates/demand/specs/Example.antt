@@ -8,11 +8,13 @@ use Rattle.lists.specs.Lists.{sum, every, atMost}
 use Rattle.lists.specs.Columns.{rowwise, joined, totals, transpose, column}
 use Rattle.lists.specs.Questions.{_then_, firstNo, inRange, outcome}
 use Rattle.signed.specs.Figures.{isWithin, accountsOf}
-use Rattle.sharing.specs.Sharing.{parts, share, serve, transfer}
-use Rattle.cover.specs.Cover.{portion, own, ownParts, table, got, rest}
+use Rattle.sharing.specs.Sharing.{parts, share}
+use Rattle.transfer.specs.Transfer.{serve, transfer}
+use Rattle.blocks.specs.Portion.{portion}
+use Rattle.cover.specs.Cover.{own, ownParts, table, got, rest}
 use Rattle.hour.specs.Hour.{hourOf, modulated, guaranteed, submarkets, guarantees, secondary, covered, deficit, surplus, leftOver, rights, ownCover, coverGot, ownSecondary, secondaryGot, coverTable, secondaryTable, figure, nets, allotment, accounts}
 use Rattle.ledger.specs.Ledger.{Ledger, inBounds, zeros, added}
-use Rattle.lines.specs.Figures.{digits, figure as figureText, minus, signedFigure}
+use Rattle.figures.specs.Figures.{digits, figure as figureText, minus, signedFigure}
 use Rattle.statement.specs.Statement.{line, plantLine, plantLines, totalLine, statementText, roomFor}
 use Rattle.statement.specs.Worked.{plants, first, second, third, total}
 use Rattle.month.specs.declared.Month.{Month}

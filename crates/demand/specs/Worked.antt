@@ -9,9 +9,12 @@ use Rattle.lists.specs.Lists.{sum, sumℤ, every, atMost}
 use Rattle.lists.specs.Columns.{rowwise, joined, totals, transpose, column}
 use Rattle.lists.specs.Questions.{_then_, firstNo, inRange, outcome}
 use Rattle.signed.specs.Figures.{isWithin, accountsOf}
-use Rattle.sharing.specs.Sharing.{parts, share, serve, transfer}
-use Rattle.sharing.specs.Calls.{noTable, apart, sharingNumber, sharingCall, transferNumber, transferCall}
-use Rattle.cover.specs.Cover.{portion, own, ownParts, table, got, rest}
+use Rattle.sharing.specs.Sharing.{parts, share}
+use Rattle.transfer.specs.Transfer.{serve, transfer}
+use Rattle.sharing.specs.Calls.{sharingNumber, sharingCall}
+use Rattle.transfer.specs.Calls.{noTable, apart, transferNumber, transferCall}
+use Rattle.blocks.specs.Portion.{portion}
+use Rattle.cover.specs.Cover.{own, ownParts, table, got, rest}
 use Rattle.hour.specs.declared.Plant.{Plant}
 use Rattle.hour.specs.Hour.{Hour, hourOf, modulated, guaranteed, submarkets, guarantees, secondary, covered, deficit, surplus, leftOver, rights, ownCover, coverGot, ownSecondary, secondaryGot, coverTable, secondaryTable, figure, nets, allotment, accounts}
 use Rattle.ledger.specs.Ledger.{Ledger, inBounds, zeros, added}

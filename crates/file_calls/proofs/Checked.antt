@@ -10,12 +10,13 @@ use lib.ListN.{length}
 use Rattle.ledger.specs.Ledger.{inBounds}
 use Rattle.questions.specs.Questions.{rowsNumber}
 use Rattle.statement.specs.Writing.{Fills}
-use Rattle.month_file.specs.declared.MonthFile.{MonthFile}
+use Rattle.file_lines.specs.declared.MonthFile.{MonthFile}
 use Rattle.file_calls.specs.declared.FeedAnswer.{FeedAnswer}
 use Rattle.file_calls.specs.declared.FinishAnswer.{FinishAnswer}
-use Rattle.month_file.specs.File.{settledFile}
+use Rattle.file_lines.specs.File.{settledFile}
 use Rattle.month_file.specs.Bytes.{finished}
-use Rattle.month_file.specs.Machine.{Kept, rowsOf, ledgerOf, Lent, Gathering, Settling, Valid, readingOf, Fresh, Fed}
+use Rattle.file_lines.specs.State.{Kept, rowsOf, ledgerOf, Lent, Gathering, Settling, Valid}
+use Rattle.month_file.specs.Machine.{readingOf, Fresh, Fed}
 use Rattle.month_file.specs.Run.{Place, Feeds}
 use Rattle.month_file.specs.Run as run
 use Rattle.file_calls.specs.Checking.{Decides, Counted, FeedLists, FeedRoom, FeedNumber, FedAny, FinishLists, FinishRoom, FinishNumber, FinishedAny, AnyPlace, AnyFeeds, AllTaken, AnyPromised}

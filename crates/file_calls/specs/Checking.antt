@@ -6,12 +6,13 @@ use Prim.Native.Nat.{ℕ, _+_, _*_, _≤_, _<_}
 use lib.ListN.{length}
 use Rattle.statement.specs.Writing.{Fills}
 use Rattle.month.specs.declared.Month.{Month}
-use Rattle.month_file.specs.declared.MonthFile.{MonthFile}
+use Rattle.file_lines.specs.declared.MonthFile.{MonthFile}
 use Rattle.file_calls.specs.declared.FeedAnswer.{FeedAnswer}
 use Rattle.file_calls.specs.declared.FinishAnswer.{FinishAnswer}
-use Rattle.month_file.specs.File.{settledFile}
+use Rattle.file_lines.specs.File.{settledFile}
 use Rattle.month_file.specs.Bytes.{finished}
-use Rattle.month_file.specs.Machine.{Kept, Lent, Valid, readingOf, Fresh, Fed}
+use Rattle.file_lines.specs.State.{Kept, Lent, Valid}
+use Rattle.month_file.specs.Machine.{readingOf, Fresh, Fed}
 
 -- the answer is yes where it holds, and no where it does not
 pub record Decides (holds : Type 0) (answer : Bool) : Type 0 where

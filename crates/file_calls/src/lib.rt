@@ -1,10 +1,10 @@
 // Feed and finish for any caller: what they need is decided at run time.
+use file_lines::MonthFile;
 use month::Month;
-use month_file::MonthFile;
 use month_file::feeding::feed;
 use month_file::finishing::finish;
 use questions::rows_number;
-ghost use Rattle.month_file.specs.Machine.{kept, Lent, Gathering, Settling, Valid};
+ghost use Rattle.file_lines.specs.State.{kept, Lent, Gathering, Settling, Valid};
 ghost use Rattle.file_calls.specs.Checking.{Decides, Counted, FeedNumber, FedAny, FinishNumber, FinishedAny};
 
 // Are the lists of what was read long enough for every month?

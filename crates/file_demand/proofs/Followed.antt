@@ -6,10 +6,10 @@ use Prim.Native.Nat.{ℕ, zero, suc, _+_}
 use lib.ListN.{getD}
 use Rattle.lists.specs.Questions.{outcome}
 use Rattle.lines.specs.Reading.{lineStart, readNumber}
-use Rattle.month_file.specs.File.{FileLine, whole, Progress, refuses, inTurn, taken, read, following}
-use Rattle.month_file.specs.Bytes.{isRefused}
-use Rattle.file_demand.specs.Sums.{figuresOf, Rising, Outcome, settled, refused}
-use Rattle.month_file.proofs.Bytes.{stays, reads}
+use Rattle.file_lines.specs.File.{FileLine, whole, Progress, refuses, figuresOf, inTurn, taken, read, following}
+use Rattle.file_lines.specs.State.{isRefused}
+use Rattle.file_demand.specs.Sums.{Rising, Outcome, settled, refused}
+use Rattle.file_lines.proofs.Following.{stays, reads}
 
 -- a claim follows from another
 pub on : {claim other : List ℕ → Type 0} {text : List ℕ} → (claim text → other text) → Outcome claim text → Outcome other text

@@ -23,12 +23,12 @@ use Rattle.statement.specs.Statement.{statementText}
 use Rattle.demand.specs.Tally as call
 use Rattle.demand.specs.Tally.{State, number, after, Entry, entries, Tally, tallied, tally, hoursAfter, hours, summed, IsTally, Left}
 use Rattle.demand.proofs.Demand.{demand3}
-use Rattle.month_file.specs.File.{FileLine, whole, settles, inTurn, blank, taken, refusal, printed, following}
-use Rattle.month_file.specs.File as file
-use Rattle.month_file.specs.Bytes.{isRefused}
-use Rattle.file_demand.specs.Sums.{figuresOf, meteredIn, hourCalls, fileCalls, unopened, fileHours, tallyOf, Stated, Rising, Outcome, settled, refused}
-use Rattle.month_file.proofs.Opened.{open-number}
-use Rattle.month_file.proofs.Settled.{settle-number, onward, settle-month}
+use Rattle.file_lines.specs.File.{FileLine, whole, settles, figuresOf, inTurn, blank, taken, refusal, printed, following}
+use Rattle.file_lines.specs.File as file
+use Rattle.file_lines.specs.State.{isRefused}
+use Rattle.file_demand.specs.Sums.{meteredIn, hourCalls, fileCalls, unopened, fileHours, tallyOf, Stated, Rising, Outcome, settled, refused}
+use Rattle.file_lines.proofs.Opened.{open-number}
+use Rattle.file_lines.proofs.Settled.{settle-number, onward, settle-month}
 use Rattle.file_demand.proofs.Followed.{on, by-number, by-line, no-lines, one-line, rising-as}
 
 abbrev state : Month → Ledger → State

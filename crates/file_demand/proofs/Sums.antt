@@ -15,9 +15,9 @@ use Rattle.month.specs.declared.Month.{Month}
 use Rattle.questions.specs.Questions.{sizesNumber}
 use Rattle.questions.proofs.Asked as asked
 use Rattle.month.specs.Calls.{OpenEnd}
-use Rattle.month_file.specs.File.{FileLine, whole, lines, Sizes, begins, gathers, plantOf, inTurn, begun, opened, taken, printed, following, settledFile}
-use Rattle.month_file.specs.Bytes.{isRefused}
-use Rattle.file_demand.specs.Sums.{figuresOf, sizesIn, plantsIn, profileIn, meteredIn, Stated, Rising, SettledAs, Outcome, refused, Outcome·holds}
+use Rattle.file_lines.specs.File.{FileLine, whole, lines, Sizes, begins, gathers, figuresOf, plantOf, inTurn, begun, opened, taken, printed, following, settledFile}
+use Rattle.file_lines.specs.State.{isRefused}
+use Rattle.file_demand.specs.Sums.{sizesIn, plantsIn, profileIn, meteredIn, Stated, Rising, SettledAs, Outcome, refused, Outcome·holds}
 use Rattle.file_demand.proofs.Followed.{on, by-number, by-line, no-lines, one-line, rising-as}
 use Rattle.file_demand.proofs.Metered.{Metered, metering, isOpened, opened-month, states}
 

@@ -6,18 +6,13 @@ use mathlib.Core.List.{List, [], _∷_, _++_, map}
 use mathlib.Core.Option.{none, some}
 use lib.ListN.{length, drop, getD, replicate}
 use Rattle.lists.specs.Lists.{tableFrom}
-use Rattle.lines.specs.Figures.{value}
-use Rattle.lines.specs.Reading.{lineStart, lineFields}
+use Rattle.lines.specs.Reading.{lineStart}
 use Rattle.hour.specs.declared.Plant.{Plant}
 use Rattle.hour.specs.Hour.{Hour, hourOf}
 use Rattle.ledger.specs.Ledger.{zeros}
 use Rattle.statement.specs.Statement.{statementText}
 use Rattle.demand.specs.Tally.{Call, opens, settles, closes, State, after, Entry, entries, Tally, tally, summed, IsTally}
-use Rattle.month_file.specs.File.{FileLine, whole, lines, Sizes, plantOf, blank, refusal, settledFile}
-
--- the figures of a line
-abbrev pub figuresOf : List ℕ → List ℕ
-figuresOf line = map value (lineFields line)
+use Rattle.file_lines.specs.File.{FileLine, whole, lines, Sizes, figuresOf, plantOf, blank, refusal, settledFile}
 
 -- what the first line names: '`MRE,1,periods,plants,TEO`'
 abbrev pub sizesIn : List ℕ → Sizes

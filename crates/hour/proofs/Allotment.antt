@@ -16,7 +16,7 @@ use Rattle.cover.proofs.Cover.{own-sized, got-sized}
 use Rattle.hour.specs.Hour.{Hour, submarkets, covered, deficit, surplus, leftOver, rights, ownCover, coverGot, ownSecondary, secondaryGot, figure, allotment}
 use Rattle.hour.proofs.Hour.{Sound, rows-subs, rows-G, rows-b, rows-d, rows-r, at-home, at-figure, figure-le}
 use Rattle.hour.proofs.Figures.{allotment-at, allotment-sized}
-use Rattle.hour.proofs.Fours.{by-four, by-fours, fours-sized, fours-at}
+use Rattle.rows.proofs.Fours.{by-four, by-fours, fours-sized, fours-at}
 
 module _ {rule : Rule} (L : Lawful rule) (subs have want : List ℕ) (same : length want ≡ length subs) where
   pub supplied-sized : (s : ℕ) → length (supplied rule subs have want s) ≡ length subs

@@ -1,18 +1,18 @@
 -- An hour's lists, row by row: the allotment, the nets and the money; column by column, and figure by figure. Assumes nothing.
-use mathlib.Core.Path.{_≡_, refl, sym, ap, _∙_, subst}
+use mathlib.Core.Path.{_≡_, refl, sym, ap, _∙_}
 use Prim.Native.Nat.{ℕ, _+_, _-_, _*_, _≤_, _<_}
 use native.Mathlib.Omega.{arith}
-use mathlib.Core.List.{List, [], _∷_, map}
-use lib.IntN.{ℤ, pos, subℕ, _*ℤ_, zero-*ℤ}
-use lib.ListN.{length, getD, length-map, List·getD-map}
+use mathlib.Core.List.{[], _∷_, map}
+use lib.IntN.{pos, subℕ, _*ℤ_}
+use lib.ListN.{length, getD}
 use Rattle.lists.specs.Lists.{sum, sumℤ}
 use Rattle.lists.specs.Columns.{_⊕_, four, column, byRow}
-use Rattle.lists.proofs.Columns.{_!_, getD-rowwise, length-rowwise, at-⊕, each}
+use Rattle.lists.proofs.Columns.{_!_, getD-rowwise, at-⊕, each}
 use Rattle.lists.proofs.Rows.{Even, column-at, column-byRow, length-byRow}
-use Rattle.signed.specs.Figures.{accountsOf}
+use Rattle.signed.proofs.Accounts.{at-rate, accounts-net, accounts-money}
 use Rattle.signed.proofs.Sums.{sub-self, sumℤ-sub}
 use Rattle.hour.specs.Hour.{Hour, covered, rights, figure, nets, allotment, accounts}
-use Rattle.hour.proofs.Hour.{Sound, row-sum, whole-sum, figure-sized, whole-sized}
+use Rattle.hour.proofs.Hour.{Sound, row-sum, whole-sum, figure-sized}
 
 module _ (h : Hour) (ok : Sound h) where
   even : Even (length (h .plants)) (four (figure h))
@@ -32,26 +32,13 @@ module _ (h : Hour) (ok : Sound h) where
       rw (hour-column 1 (omega arith) (omega arith), hour-column 2 (omega arith) (omega arith), hour-column 3 (omega arith) (omega arith), hour-column 4 (omega arith) (omega arith))
       (row-sum h ok i)
 
-  module _ (tariff : ℕ) where
-    abbrev money : List ℤ
-    money = map (λ z. z *ℤ pos tariff) (nets h)
+  pub net-column : (tariff : ℕ) → column 2 0 (accounts h tariff) ≡ nets h
+  unfolding accounts
+  net-column tariff = accounts-net tariff (nets h)
 
-    even-accounts : Even (length (nets h)) (nets h ∷ money ∷ [])
-    even-accounts = (refl, (length-map (nets h) (λ z. z *ℤ pos tariff), tt))
-
-    pub net-column : column 2 0 (accounts h tariff) ≡ nets h
-    unfolding accounts accountsOf
-    net-column = column-byRow (pos 0) (length (nets h)) (nets h) (money ∷ []) even-accounts 0 (omega arith)
-
-    pub money-column : column 2 1 (accounts h tariff) ≡ map (λ z. z *ℤ pos tariff) (nets h)
-    unfolding accounts accountsOf
-    money-column = column-byRow (pos 0) (length (nets h)) (nets h) (money ∷ []) even-accounts 1 (omega arith)
-
-    pub accounts-sized : length (accounts h tariff) ≡ 2 * length (h .plants)
-    unfolding accounts accountsOf nets
-    accounts-sized =
-        length-byRow (pos 0) (length (nets h)) (nets h) (money ∷ []) even-accounts
-        ∙ ap (λ (n : ℕ). 2 * n) (length-rowwise subℕ 0 0 (h .metered) (covered h ⊕ rights h) ∙ (let a = whole-sized h ok in let b = ok .metered in omega arith))
+  pub money-column : (tariff : ℕ) → column 2 1 (accounts h tariff) ≡ map (λ z. z *ℤ pos tariff) (nets h)
+  unfolding accounts
+  money-column tariff = accounts-money tariff (nets h)
 
   pub nets-sum : sumℤ (nets h) ≡ pos 0
   unfolding nets
@@ -78,6 +65,5 @@ module _ (h : Hour) (ok : Sound h) where
   pub money-at : (tariff i : ℕ) → getD (accounts h tariff) (1 + i * 2) (pos 0) ≡ subℕ (h .metered ! i) (covered h ! i + rights h ! i) *ℤ pos tariff
   money-at tariff i =
       sym (column-at 2 1 (omega arith) (accounts h tariff) i (pos 0)) ∙ ap (λ zs. getD zs i (pos 0)) (money-column tariff)
-      ∙ subst (λ d. getD (map (λ z. z *ℤ pos tariff) (nets h)) i d ≡ getD (nets h) i (pos 0) *ℤ pos tariff) (zero-*ℤ (pos tariff))
-      (List·getD-map (λ z. z *ℤ pos tariff) (nets h) i (pos 0))
+      ∙ at-rate tariff (nets h) i
       ∙ ap (λ z. z *ℤ pos tariff) (at-nets i)

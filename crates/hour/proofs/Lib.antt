@@ -2,11 +2,7 @@
 pub mod Hour
 pub mod Figures
 pub mod Table
-pub mod Profile
-pub mod Written
-pub mod Fours
+pub mod Guarantees
 pub mod Allotment
 pub mod Limits
-pub mod Digits
 pub mod Whole
-pub mod Submarkets

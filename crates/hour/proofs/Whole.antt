@@ -11,7 +11,7 @@ use Rattle.sharing.specs.Sharing.{share}
 use Rattle.cover.specs.Cover.{table, rest, supplied}
 use Rattle.hour.specs.Hour.{Hour, hourOf, submarkets, guarantees, secondary, covered, deficit, surplus, leftOver, rights, coverTable, secondaryTable, nets}
 use Rattle.hour.specs.Table.{plantsOf}
-use Rattle.hour.specs.Steps.{coveredOf, rightsOf}
+use Rattle.rows.specs.Steps.{coveredOf, rightsOf}
 use Rattle.hour.specs.Work.{Workable}
 use Rattle.hour.proofs.Hour.{surplus-sum, covered-sum, rights-sum, leftOver-sum, surplus-le, leftOver-le, rows-b, rows-d, rows-r}
 use Rattle.hour.proofs.Allotment.{begun-small, first-small}

@@ -1,5 +1,5 @@
 -- "One hour": steps 1 to 8. Assumes nothing.
-use Prim.Native.Nat.{ℕ, _-_, _*_, _/_}
+use Prim.Native.Nat.{ℕ, _-_}
 use mathlib.Core.Bool.{cond}
 use mathlib.Core.List.{List, [], map}
 use lib.Dec.{leb, eqb}
@@ -9,6 +9,7 @@ use Rattle.lists.specs.Lists.{sum}
 use Rattle.signed.specs.Figures.{accountsOf}
 use Rattle.sharing.specs.Sharing.{Rule, share}
 use Rattle.cover.specs.Cover.{ownParts, table, got, rest}
+use Rattle.modulation.specs.Guarantee.{modulatedIn, reducedBy}
 use Rattle.hour.specs.declared.Plant.{Plant}
 
 -- What an hour is worked from. Steps 3 to 7 share by its rule, step 1 by running totals
@@ -28,11 +29,11 @@ submarkets h = map (λ (p : Plant). p .submarket) (h .plants)
 
 -- Step 1: the guarantee Q shared over the whole profile; this period's part
 unfoldable pub modulated : Hour → Plant → ℕ
-modulated h p = at (h .period) (share (p .guarantee) (h .profile)) 0
+modulated h p = modulatedIn (h .profile) (h .period) (p .guarantee)
 
 -- Step 2: times loss, rounded down, times availability, rounded down; a of each plant
 unfoldable pub guaranteed : Hour → Plant → ℕ
-guaranteed h p = modulated h p * p .loss / 1000000 * p .availability / 1000000
+guaranteed h p = reducedBy (p .loss) (p .availability) (modulated h p)
 
 unfoldable pub guarantees : Hour → List ℕ
 guarantees h = map (guaranteed h) (h .plants)

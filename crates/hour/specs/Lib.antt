@@ -1,6 +1,4 @@
 -- Document 01, 'One hour', as definitions.
 pub mod Hour
 pub mod Table
-pub mod Ratio
-pub mod Steps
 pub mod Work

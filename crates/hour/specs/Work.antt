@@ -5,7 +5,7 @@ use mathlib.Core.List.{List}
 use lib.IntN.{ℤ}
 use lib.ListN.{length}
 use Rattle.lists.specs.Lists.{sum, Within}
-use Rattle.cover.specs.Cover.{Standing}
+use Rattle.blocks.specs.Portion.{Standing}
 use Rattle.hour.specs.Hour.{Hour, guarantees, secondary, coverTable, secondaryTable, nets, allotment}
 use Rattle.hour.specs.Table.{Equal}
 use Rattle.hour.specs.declared.Worked.{Worked}

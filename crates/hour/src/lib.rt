@@ -4,11 +4,7 @@ ghost use lib.ListN.{length};
 ghost use Rattle.hour.specs.Hour.{hourOf};
 ghost use Rattle.hour.specs.Table.{plantsOf};
 ghost use Rattle.hour.specs.Work.{Workable, HourWorked};
-use sharing::Table;
-
-mod modulation;
-mod ratio;
-mod rows;
+use transfer::Table;
 
 // A plant record: monthly guarantee Q in kWh, loss and availability factors in millionths.
 #[repr(C)]
@@ -52,7 +48,7 @@ fn work_in(
     let guarantees = modulation::guarantees_of(profile, period, guarantee, loss, availability, a);
     let secondary = rows::share_out(metered, guarantees, a, b, r);
     let surplus = rows::prepare(submarket, metered, b, r, d, nets, allotment);
-    let starts = cover::block_starts(submarket);
+    let starts = blocks::block_starts(submarket);
     let first = cover::meet(starts, surplus, d, part, allotment);
     let left = first.rest;
     let second = cover::meet(starts, left, r, part, allotment);

@@ -11,9 +11,9 @@ ghost use Rattle.ledger.specs.Ledger.{accountsWidth, added, allottedWidt
 ghost use Rattle.ledger.specs.Posting.{Addable, Payable, Postable, Summable, hourFigures};
 
 // Figures a plant: its allotted kWh in submarkets 1 to 4; its net and its money.
-const ALLOTTED: usize = 4;
+pub const ALLOTTED: usize = 4;
 
-const ACCOUNTS: usize = 2;
+pub const ACCOUNTS: usize = 2;
 
 // The net stands before the money.
 const NET: usize = 0;

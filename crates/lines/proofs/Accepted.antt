@@ -1,16 +1,14 @@
 -- What a caller learns of a line that was read: for those who go on with its figures. Assumes nothing.
 use mathlib.Core.Path.{_≡_, refl, sym, ap, _∙_}
-use mathlib.Core.Bool.{true, not, _&&_}
-use mathlib.Core.List.{List, [], _∷_, _++_, map}
-use Prim.Native.Nat.{ℕ, zero, suc, _+_, _-_, _*_, _^_, _≤_, _<_}
-use native.Mathlib.Nat.{pow-succ', pow-le-pow-right, add-zero}
-use native.Mathlib.Omega.{arith}
+use mathlib.Core.Bool.{true}
+use mathlib.Core.List.{List, _++_, map}
+use Prim.Native.Nat.{ℕ, zero, suc, _≤_, _<_}
 use borrow.Author.Tests.{leb-true, ltb-true, eqb-true}
 use lib.ListN.{length, drop}
 use Rattle.lists.specs.Lists.{every}
-use Rattle.lists.specs.Questions.{inRange, outcome}
-use Rattle.lists.proofs.Questions.{asked, both, limits, accepted, outcome-part}
-use Rattle.lines.specs.Figures.{valueFrom, value, isDigit, leadingZero, isFigure}
+use Rattle.lists.specs.Questions.{outcome}
+use Rattle.lists.proofs.Questions.{asked, limits, accepted, outcome-part}
+use Rattle.figures.specs.Figures.{value, isFigure}
 use Rattle.lines.specs.Reading.{lineStart, lineFields, countFits, readNumber, ReadEnd, readCall}
 use Rattle.lines.specs.declared.reading.Line.{Line}
 
@@ -100,22 +98,3 @@ period-fields n e = eqb-true n 2 e
 pub meter-fields : (n : ℕ) → countFits 4 n ≡ true → (2 ≤ n) × (n ≤ 513)
 unfolding countFits
 meter-fields n e = limits 2 513 n e
-
--- ---- a figure has at most 19 digits
-
-digits-below : (bs : List ℕ) (v i : ℕ) → v < 10 ^ i → every isDigit bs ≡ true → valueFrom v bs < 10 ^ (i + length bs)
-unfolding valueFrom every isDigit
-digits-below [] v i h e = rw add-zero h
-digits-below (b ∷ bs) v i h e =
-    let p = both (isDigit b) (every isDigit bs) e in
-    let l = limits 48 57 b (p .0) in
-    let long : i + suc (length bs) ≡ suc i + length bs = omega arith in
-    rw long (digits-below bs (10 * v + (b - 48)) (suc i) (omega (arith, pow-succ' 10 i)) (p .1))
-
-pub figure-below : (f : List ℕ) → isFigure f ≡ true → value f < 10 ^ 19
-unfolding isFigure value
-figure-below f e =
-    let p = both (inRange 1 19 (length f)) (not (leadingZero f) && every isDigit f) e in
-    let l = limits 1 19 (length f) (p .0) in
-    let up : 10 ^ (0 + length f) ≤ 10 ^ 19 = pow-le-pow-right (omega arith) {j = 19} (omega arith) in
-    omega (arith, digits-below f 0 0 (omega arith) (both (not (leadingZero f)) (every isDigit f) (p .1) .1))

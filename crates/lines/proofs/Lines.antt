@@ -8,16 +8,15 @@ use native.Mathlib.Numerals.{add-one}
 use native.Mathlib.Omega.{arith}
 use borrow.Author.Tests.{lt-ltb, le-leb, lt-leb, leb-true, leb-false}
 use lib.Dec.{leb, ltb}
-use lib.ListN.{length, take, drop, getD, set, length-set, length-map, take-append-drop}
-use lib.Seq.{take-suc-set, drop-set-lt, drop-drop, length-take-le, getD-take, ext-getD, take-at}
-use Rattle.lists.specs.Lists.{every, table}
+use lib.ListN.{length, take, drop, set, length-set, length-map, take-append-drop}
+use lib.Seq.{take-suc-set, drop-set-lt, drop-drop, length-take-le, take-at}
+use Rattle.lists.specs.Lists.{every}
 use Rattle.lists.specs.Questions.{firstNo}
 use Rattle.lists.proofs.Questions.{both, refuses, accepts}
-use Rattle.lists.proofs.Sums.{length-table, getD-table}
-use Rattle.lines.specs.Figures.{value, isFigure}
+use Rattle.figures.specs.Figures.{value, isFigure, ReadAs}
 use Rattle.lines.specs.Fields.{nextComma, fields}
 use Rattle.lines.specs.Reading.{lineStart, startLength, lineFields, countFits, readNumber, refusal, ReadEnd, readCall}
-use Rattle.lines.specs.Inner.{firstField, ReadAs, worth, ReadTo}
+use Rattle.lines.specs.Inner.{firstField, worth, ReadTo}
 use Rattle.lines.specs.declared.reading.Line.{Line}
 use Rattle.lines.proofs.Starts.{too-many}
 use Rattle.lines.proofs.Commas.{fields-more, fields-last, fields-some, field-long, next-high}
@@ -125,10 +124,11 @@ module _ {line : List ℕ} {from : ℕ} {figures₀ : List ℕ} where
 
 -- ---- the front of a list, copied
 
-pub front-table : (l : List ℕ) (n : ℕ) → n ≤ length l → table n (λ (i : ℕ). getD l i 0) ≡ take n l
-front-table l n h =
-    ext-getD 0 (table n (λ (i : ℕ). getD l i 0)) (take n l) (length-table (λ (i : ℕ). getD l i 0) n ∙ sym (length-take-le n l h))
-    (λ i k. let in-front : i < n = rw length-table at k in getD-table (λ (i : ℕ). getD l i 0) n i 0 in-front ∙ sym (getD-take n l i 0 in-front))
+pub copied-front : (old : List ℕ) {after : List ℕ} (list : List ℕ) (count : ℕ) → count ≤ length list
+    → after ≡ take (count - 0) list ++ drop (length (take (count - 0) list)) old → after ≡ take count list ++ drop count old
+copied-front old list count h e =
+    let all : count - 0 ≡ count = omega arith in
+    e ∙ ap (λ (n : ℕ). take n list ++ drop (length (take n list)) old) all ∙ ap (λ (n : ℕ). take count list ++ drop n old) (length-take-le count list h)
 
 -- ---- the questions
 

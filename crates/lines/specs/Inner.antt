@@ -5,7 +5,7 @@ use mathlib.Core.List.{List, [], _++_, map}
 use Prim.Native.Nat.{ℕ, _≤_, _<_}
 use lib.ListN.{length, take, drop}
 use Rattle.lists.specs.Lists.{every}
-use Rattle.lines.specs.Figures.{value, isFigure}
+use Rattle.figures.specs.Figures.{value, isFigure}
 use Rattle.lines.specs.Fields.{toComma, fields}
 
 -- the bytes before the first comma
@@ -16,11 +16,6 @@ firstField l = take (toComma l) l
 pub record Starts (line : List ℕ) (index position : ℕ) : Type 0 where
   pub there : position ≤ length line → drop index (fields line) ≡ fields (drop position line)
   pub absent : length line < position → drop index (fields line) ≡ []
-
--- bytes as read: with the test passed they are good and stand for their value, else for 0
-pub record ReadAs (test : Bool) (bytes : List ℕ) (good : Bool) (v : ℕ) : Type 0 where
-  pub said : good ≡ test
-  pub stands : v ≡ cond test (value bytes) 0
 
 unfoldable pub worth : List ℕ → ℕ
 worth field = cond (isFigure field) (value field) 0

@@ -1,25 +1,30 @@
--- What is promised of figures and commas. Assumes nothing.
+-- What is promised of commas and of lines as they are written. Assumes nothing.
 use mathlib.Core.Path.{_≡_}
-use mathlib.Core.Bool.{true}
-use mathlib.Core.List.{List}
-use Prim.Native.Nat.{ℕ, suc, _≤_, _<_, _^_}
-use lib.IntN.{ℤ, natAbs}
-use lib.ListN.{length, getD}
-use Rattle.lines.specs.Figures.{figure, figureLength, signedFigureLength, value, isFigure}
+use mathlib.Core.List.{List, [], _∷_, _++_}
+use Prim.Native.Nat.{ℕ, _-_, _^_, _≤_, _<_}
+use lib.ListN.{length, drop, getD}
+use Rattle.lists.specs.Lists.{Within}
+use Rattle.figures.specs.Figures.{figure}
 use Rattle.lines.specs.Fields.{nextComma}
+use Rattle.lines.specs.Reading.{meterStart, readCall}
+
+-- figures written one behind another, parted by commas
+unfoldable pub figuresText : List ℕ → List ℕ
+figuresText [] = []
+figuresText (x ∷ []) = figure x
+figuresText (x ∷ y ∷ ys) = figure x ++ (44 ∷ figuresText (y ∷ ys))
+
+-- a G line as it is written: the period, and the metered kWh of each plant
+unfoldable pub meterLine : ℕ → List ℕ → List ℕ
+meterLine period metered = meterStart ++ figuresText (period ∷ metered)
 
 pub record Promised : Type 0 where
-  -- reading a written figure gives the figure
-  pub back : (x : ℕ) → value (figure x) ≡ x
-  -- a written figure of up to 19 digits passes question 29
-  pub readable : (x : ℕ) → x < 10 ^ 19 → isFigure (figure x) ≡ true
-  -- and what passes it is what would be written: one number has one text
-  pub only : (bytes : List ℕ) → isFigure bytes ≡ true → figure (value bytes) ≡ bytes
-  -- how many bytes a figure takes
-  pub some : (x : ℕ) → 1 ≤ figureLength x
-  pub short : (k x : ℕ) → x < 10 ^ suc k → figureLength x ≤ suc k
-  pub short-signed : (k : ℕ) (z : ℤ) → natAbs z < 10 ^ suc k → signedFigureLength z ≤ suc (suc k)
   -- from each start in the line: the first comma there or later, or the line's end where there is none
   pub inside : (line : List ℕ) (from : ℕ) → from ≤ length line → (from ≤ nextComma line from) × (nextComma line from ≤ length line)
   pub none-before : (line : List ℕ) (from at : ℕ) → from ≤ at → at < nextComma line from → getD line at 0 ≡ 44 → ⊥
   pub comma : (line : List ℕ) (from : ℕ) → nextComma line from < length line → getD line (nextComma line from) 0 ≡ 44
+  -- a G line as written, of figures of up to 19 digits, reads back whole
+  pub meter-back : (period : ℕ) (metered places : List ℕ) → Within (period ∷ metered) (10 ^ 19 - 1) → 1 ≤ length metered → length metered ≤ 512
+      → length (meterLine period metered) ≤ 8192 → length (period ∷ metered) ≤ length places
+      → readCall (meterLine period metered) places
+      ≡ record { answer = record { number = 0; start = 4; fields = length (period ∷ metered) }; figures = (period ∷ metered) ++ drop (length (period ∷ metered)) places }

@@ -1,5 +1,4 @@
--- Lines of text: figures written and read, fields, the reader of a line.
-pub mod Figures
+-- Lines of text: fields, the reader of a line.
 pub mod Fields
 pub mod Reading
 pub mod Laws

@@ -6,7 +6,7 @@ use lib.Dec.{eqb, leb, ltb}
 use lib.ListN.{length, drop}
 use Rattle.lists.specs.Lists.{every}
 use Rattle.lists.specs.Questions.{_⁇_, firstNo, inRange, outcome}
-use Rattle.lines.specs.Figures.{value, isFigure}
+use Rattle.figures.specs.Figures.{value, isFigure}
 use Rattle.lines.specs.Fields.{fields}
 use Rattle.lines.specs.declared.reading.Line.{Line}
 

@@ -1,16 +1,14 @@
 // The reader of a line: its start, its fields, and their figures.
 ghost use mathlib.Core.Path.{_≡_};
-ghost use mathlib.Core.Bool.{false};
-ghost use mathlib.Core.List.{_++_};
 ghost use Prim.Native.Nat.{_≤_};
-ghost use lib.ListN.{length, take, drop};
-ghost use Rattle.lists.specs.Lists.{every};
-ghost use Rattle.lines.specs.Figures.{isDigit, leadingZero, isFigure};
+ghost use lib.ListN.{length, drop};
 ghost use Rattle.lines.specs.Fields.{fields};
 ghost use Rattle.lines.specs.Reading.{startsWith, lineStart, startLength, countFits, refusal, ReadEnd, readCall};
-ghost use Rattle.lines.specs.Inner.{ReadAs, ReadTo};
+ghost use Rattle.lines.specs.Inner.{ReadTo};
 use crate::fields::LONGEST;
 use crate::fields::field_at;
+use figures::reading::read_figure;
+use lists::copy_into;
 
 // What reading answers. C reads it as it stands.
 #[repr(C)]
@@ -80,69 +78,6 @@ fn count_fits(start: u64, count: usize) -> bool
     2 <= count && count <= 513
 }
 
-// A field as read: whether it is a figure, and if so which.
-struct FieldRead {
-    good: bool,
-    value: u64,
-}
-
-fn no_figure() -> FieldRead
-    ensures { λ r. ⌜ (r .good ≡ false) × (r .value ≡ 0) ⌝ }
-{
-    FieldRead {
-        good: false,
-        value: 0,
-    }
-}
-
-fn wide(b: u8) -> u64
-    ensures { λ r. ⌜ r ≡ b ⌝ }
-{
-    b as u64
-}
-
-// The digits of a field that is short enough for its figure to fit.
-fn read_digits(field: &[u8]) -> FieldRead
-    requires { ⌜ length (now field) ≤ 19 ⌝ }
-    ensures { λ r. ⌜ ReadAs (every isDigit (now (field .entry))) (now (field .entry)) (r .good) (r .value) ⌝ }
-{
-    let mut value: u64 = 0;
-    let mut i: usize = 0;
-    while i < field.len() {
-        let b = wide(field[i]);
-        if b < 48 {
-            return no_figure();
-        }
-        if 57 < b {
-            return no_figure();
-        }
-        value = 10 * value + (b - 48);
-        i += 1;
-    }
-    FieldRead { good: true, value }
-}
-
-fn has_leading_zero(field: &[u8]) -> bool
-    ensures { λ r. ⌜ r ≡ leadingZero (now (field .entry)) ⌝ }
-{
-    1 < field.len() && field[0] == 48
-}
-
-fn read_figure(field: &[u8]) -> FieldRead
-    ensures { λ r. ⌜ ReadAs (isFigure (now (field .entry))) (now (field .entry)) (r .good) (r .value) ⌝ }
-{
-    if field.len() < 1 {
-        return no_figure();
-    }
-    if 19 < field.len() {
-        return no_figure();
-    }
-    if has_leading_zero(field) {
-        return no_figure();
-    }
-    read_digits(field)
-}
-
 // Fields as read: how many there are, and whether each is a figure.
 struct FieldsRead {
     count: usize,
@@ -172,18 +107,6 @@ fn read_fields(line: &[u8], from: usize, figures: &mut [u64]) -> FieldsRead
     FieldsRead {
         count: count + 1,
         good,
-    }
-}
-
-// Copies the first figures of a list to the front of another.
-fn copy_front(from: &[u64], count: usize, to: &mut [u64])
-    requires { ⌜ (count ≤ length (now from)) × (count ≤ length (now to)) ⌝ }
-    ensures { λ _. ⌜ now (to .exit) ≡ take count (now (from .entry)) ++ drop count (now (to .entry)) ⌝ }
-{
-    let mut i: usize = 0;
-    while i < count {
-        to[i] = from[i];
-        i += 1;
     }
 }
 
@@ -220,7 +143,7 @@ fn read_over(line: &[u8], own: &mut [u64], figures: &mut [u64]) -> Line
     if figures.len() < count {
         return refused(30);
     }
-    copy_front(own, count, figures);
+    copy_into(&own[0..count], figures);
     Line {
         number: 0,
         start,

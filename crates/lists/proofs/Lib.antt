@@ -7,3 +7,4 @@ pub mod Bounds
 pub mod Columns
 pub mod Rows
 pub mod Strides
+pub mod Written

@@ -12,7 +12,7 @@ use Rattle.lists.specs.Questions.{_then_, firstNo}
 use Rattle.lists.proofs.Questions.{asked, parted, both, limits, then-zero}
 use Rattle.lists.proofs.Columns.{_!_}
 use Rattle.sharing.proofs.Sharing.{share-lawful}
-use Rattle.cover.specs.Cover.{Standing}
+use Rattle.blocks.specs.Portion.{Standing}
 use Rattle.hour.specs.declared.Plant.{Plant}
 use Rattle.hour.specs.Hour.{hourOf, submarkets}
 use Rattle.hour.proofs.Hour.{Sound}

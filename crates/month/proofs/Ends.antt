@@ -8,7 +8,7 @@ use lib.Seq.{drop-length}
 use Rattle.lists.specs.Lists.{sum}
 use Rattle.lists.specs.Questions.{_then_, firstNo}
 use Rattle.lists.proofs.Questions.{then-yes, then-no, refuses, accepts}
-use Rattle.sharing.specs.Calls.{noTable}
+use Rattle.transfer.specs.Calls.{noTable}
 use Rattle.hour.specs.declared.Worked.{Worked}
 use Rattle.hour.specs.Hour.{Hour, hourOf, guarantees, secondary, coverTable, secondaryTable, allotment, nets, accounts}
 use Rattle.hour.specs.Table.{plantsOf}

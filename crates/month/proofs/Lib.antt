@@ -4,4 +4,4 @@ pub mod Asked
 pub mod Ends
 pub mod Workable
 pub mod Many
-pub mod Statable
+pub mod StatementAsked

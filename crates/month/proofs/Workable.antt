@@ -23,7 +23,7 @@ use Rattle.hour.proofs.Hour.{Sound, figure-le, share-le, whole-sized}
 use Rattle.hour.proofs.Figures.{allotment-at, allotment-sized, at-nets}
 use Rattle.hour.proofs.Limits.{sound}
 use Rattle.hour.proofs.Table.{plant, length-plants, plants-submarkets, plant-at}
-use Rattle.cover.specs.Cover.{Standing}
+use Rattle.blocks.specs.Portion.{Standing}
 use Rattle.ledger.specs.Ledger.{Ledger, inBounds}
 use Rattle.ledger.specs.Posting.{Near, Postable}
 use Rattle.month.specs.declared.Month.{Month}

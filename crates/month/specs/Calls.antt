@@ -7,7 +7,7 @@ use lib.ListN.{length}
 use Rattle.lists.specs.Lists.{sum, sumℤ}
 use Rattle.lists.specs.Columns.{four}
 use Rattle.lists.specs.Questions.{outcome}
-use Rattle.sharing.specs.Calls.{noTable}
+use Rattle.transfer.specs.Calls.{noTable}
 use Rattle.hour.specs.declared.Plant.{Plant}
 use Rattle.hour.specs.Hour.{hourOf, guarantees, secondary, coverTable, secondaryTable, allotment}
 use Rattle.ledger.specs.Ledger.{Ledger, zeros, allottedIn, netColumn, moneyColumn}

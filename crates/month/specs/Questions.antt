@@ -10,7 +10,7 @@ use Rattle.lists.specs.Questions.{_⁇_, part, firstNo, inRange}
 use Rattle.hour.specs.declared.Plant.{Plant}
 use Rattle.hour.specs.Hour.{Hour, hourOf, allotment, accounts}
 use Rattle.ledger.specs.Ledger.{Ledger, inBounds, added}
-use Rattle.questions.specs.Questions.{sizesNumber, lengthsNumber, tablesNumber}
+use Rattle.questions.specs.Questions.{plantsInLimits, periodsInLimits, sizesNumber, lengthsNumber, tablesNumber}
 use Rattle.month.specs.declared.Month.{Month}
 use Rattle.month.specs.declared.Stage.{Stage}
 use Rattle.month.specs.declared.Stage.the-variants.{Blank, Open, Closed}
@@ -73,14 +73,14 @@ settleNumber m plants profile metered lent l =
 
 -- Close: a month open? 12. H in limits? 3. The last period settled, so that H + 1 is due? 20
 unfoldable pub closeNumber : Month → ℕ
-closeNumber m = firstNo (isOpen (m .stage) ⁇ 12 ∷ inRange 1 744 (m .periods) ⁇ 3 ∷ eqb (m .due) (m .periods + 1) ⁇ 20 ∷ [])
+closeNumber m = firstNo (isOpen (m .stage) ⁇ 12 ∷ periodsInLimits (m .periods) ⁇ 3 ∷ eqb (m .due) (m .periods + 1) ⁇ 20 ∷ [])
 
 -- Balance: month not blank? 21; then 2 and 11 by the month's own P, and 19 for the ledger at hand
 unfoldable pub balanceNumber : Month → Ledger → ℕ
 balanceNumber m l =
     firstNo
     (not (isBlank (m .stage)) ⁇ 21
-    ∷ inRange 1 512 (m .plants) ⁇ 2
+    ∷ plantsInLimits (m .plants) ⁇ 2
     ∷ part (lengthsNumber (m .plants) l)
     ∷ inBounds l ⁇ 19
     ∷ [])

@@ -13,7 +13,7 @@ use Rattle.statement.specs.Statement.{statementText, roomFor}
 use Rattle.month.specs.declared.Month.{Month}
 use Rattle.month.specs.declared.Stated.{Stated}
 use Rattle.month.specs.declared.Sized.{Sized}
-use Rattle.questions.specs.Questions.{rowsNumber, lengthsNumber}
+use Rattle.questions.specs.Questions.{plantsInLimits, periodsInLimits, rowsNumber, lengthsNumber}
 use Rattle.month.specs.Questions.{isBlank}
 
 -- Statement: 21, 2 and 3 for the month's own P and H, 13 (P only, with so many rows lent), 14 (H + 1 passes too)
@@ -21,8 +21,8 @@ unfoldable pub dueNumber : Month → ℕ → ℕ
 dueNumber m rows =
     firstNo
     (not (isBlank (m .stage)) ⁇ 21
-    ∷ inRange 1 512 (m .plants) ⁇ 2
-    ∷ inRange 1 744 (m .periods) ⁇ 3
+    ∷ plantsInLimits (m .plants) ⁇ 2
+    ∷ periodsInLimits (m .periods) ⁇ 3
     ∷ eqb rows (m .plants) ⁇ 13
     ∷ inRange 1 (m .periods + 1) (m .due) ⁇ 14
     ∷ [])

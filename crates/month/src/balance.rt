@@ -3,6 +3,7 @@ use crate::Balanced;
 use crate::Month;
 use crate::stages::is_blank;
 use questions::lengths_number;
+use questions::plants_in_limits;
 ghost use mathlib.Core.Path.{_≡_};
 ghost use Rattle.month.specs.Questions.{balanceNumber};
 ghost use Rattle.month.specs.Calls.{balanceCall};
@@ -15,10 +16,7 @@ pub fn balance_number(month: Month, allotted: &[u64], accounts: &[i64]) -> u64
     if is_blank(stage) {
         return 21;
     }
-    if month.plants < 1 {
-        return 2;
-    }
-    if 512 < month.plants {
+    if !plants_in_limits(month.plants) {
         return 2;
     }
     let no = lengths_number(month.plants, allotted, accounts);

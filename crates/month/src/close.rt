@@ -3,6 +3,7 @@ use crate::Ended;
 use crate::Month;
 use crate::Stage;
 use crate::stages::is_open;
+use questions::periods_in_limits;
 ghost use mathlib.Core.Path.{_≡_};
 ghost use Rattle.month.specs.Questions.{closeNumber};
 ghost use Rattle.month.specs.Calls.{closeCall};
@@ -15,10 +16,7 @@ pub fn close_number(month: Month) -> u64
     if !is_open(stage) {
         return 12;
     }
-    if month.periods < 1 {
-        return 3;
-    }
-    if 744 < month.periods {
+    if !periods_in_limits(month.periods) {
         return 3;
     }
     if month.due != month.periods + 1 {

@@ -1,5 +1,5 @@
 // The month and its calls (document 01, 'Calls' and 'The questions').
-use sharing::Table;
+use transfer::Table;
 
 pub mod balance;
 pub mod close;

@@ -4,7 +4,8 @@ use crate::Settled;
 use crate::stages::is_open;
 use hour::Plant;
 use hour::Worked;
-use questions::MOST;
+use lists::MOST;
+use questions::in_range;
 use questions::sizes_number;
 use questions::tables_number;
 use questions::total;
@@ -16,7 +17,7 @@ ghost use lib.ListN.{length};
 ghost use Rattle.hour.specs.declared.Plant.{Plant};
 ghost use Rattle.hour.specs.Table.{plantsOf, Equal};
 ghost use Rattle.records.specs.Records.{Held};
-ghost use Rattle.sharing.specs.Calls.{noTable};
+ghost use Rattle.transfer.specs.Calls.{noTable};
 ghost use Rattle.ledger.specs.Ledger.{inBounds, added};
 ghost use Rattle.ledger.specs.Posting.{Postable, hourFigures};
 ghost use Rattle.month.specs.Questions.{ownNumber, meteredNumber, boundsNumber};
@@ -49,10 +50,7 @@ pub fn metered_number(month: Month, profile: &[u64], metered: &[u64], lent: u64)
     requires { ⌜ (month .plants ≤ 512) × (length (now profile) ≡ month .periods) ⌝ }
     ensures { λ r. ⌜ r ≡ meteredNumber month (now (profile .entry)) (now (metered .entry)) lent ⌝ }
 {
-    if month.due < 1 {
-        return 14;
-    }
-    if month.periods < month.due {
+    if !in_range(1, month.periods, month.due) {
         return 14;
     }
     if metered.len() as u64 != month.plants {
@@ -134,8 +132,8 @@ impl Month {
     fn unsettled(self, number: u64) -> Settled
         ensures { λ r. ⌜ r ≡ record { number = number; month = self; secondary = 0; guarantees = 0; «cover_table» = record { rows = noTable }; «secondary_table» = record { rows = noTable } } ⌝ }
     {
-        let cover_table = sharing::table_of([[0u64; 4]; 4]);
-        let secondary_table = sharing::table_of([[0u64; 4]; 4]);
+        let cover_table = transfer::table_of([[0u64; 4]; 4]);
+        let secondary_table = transfer::table_of([[0u64; 4]; 4]);
         Settled {
             number,
             month: self,

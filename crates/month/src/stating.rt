@@ -4,7 +4,10 @@ use crate::Sized;
 use crate::Stated;
 use crate::stages::is_blank;
 use hour::Plant;
+use questions::in_range;
 use questions::lengths_number;
+use questions::periods_in_limits;
+use questions::plants_in_limits;
 use questions::rows_number;
 ghost use mathlib.Core.Path.{_≡_};
 ghost use mathlib.Core.List.{List};
@@ -24,25 +27,16 @@ pub fn due_number(month: Month, rows: u64) -> u64
     if is_blank(stage) {
         return 21;
     }
-    if month.plants < 1 {
+    if !plants_in_limits(month.plants) {
         return 2;
     }
-    if 512 < month.plants {
-        return 2;
-    }
-    if month.periods < 1 {
-        return 3;
-    }
-    if 744 < month.periods {
+    if !periods_in_limits(month.periods) {
         return 3;
     }
     if rows != month.plants {
         return 13;
     }
-    if month.due < 1 {
-        return 14;
-    }
-    if month.periods + 1 < month.due {
+    if !in_range(1, month.periods + 1, month.due) {
         return 14;
     }
     0

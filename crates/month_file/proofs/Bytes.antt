@@ -1,6 +1,6 @@
 -- The bytes one by one give the file's text, however they are cut. Assumes nothing.
 use mathlib.Core.Path.{_≡_, refl, sym, ap, _∙_}
-use mathlib.Core.Bool.{Bool, true, false, false≢true, cond}
+use mathlib.Core.Bool.{Bool, true, false, cond}
 use mathlib.Core.List.{List, [], _∷_, _++_, flatten}
 use Prim.Native.Nat.{ℕ, _+_, _<_}
 use native.Mathlib.Omega.{arith}
@@ -9,30 +9,10 @@ use lib.Dec.{eqb, ltb}
 use lib.ListN.{length, length-append}
 use Rattle.lists.specs.Questions.{firstNo, outcome}
 use Rattle.lines.specs.Reading.{readNumber}
-use Rattle.month_file.specs.File.{FileLine, whole, unfinished, linesAfter, lines, Progress, begins, gathers, settles, refuses, read, next, refusal, printed, following, settledFile}
-use Rattle.month_file.specs.Bytes.{Reading, isRefused, ended, longer, byte, fed, fedParts, start, finished, Promised}
-
--- after a refusal nothing is read
-pub stays : (k j n : ℕ) (ls : List FileLine) → following k (refuses j n) ls ≡ refusal j n
-unfolding following next printed
-stays k j n [] = refl
-stays k j n (l ∷ ls) = stays (k + 1) j n ls
-
--- what is refused was refused by a line and a number
-pub refused-is : (p : Progress) → isRefused p ≡ true → (j : ℕ) × (n : ℕ) × (p ≡ refuses j n)
-unfolding isRefused
-refused-is begins e = absurd (false≢true e)
-refused-is (gathers s plants profile) e = absurd (false≢true e)
-refused-is (settles plants profile m l) e = absurd (false≢true e)
-refused-is (refuses j n) e = (j, n, refl)
-
--- before a refusal each line is read
-pub reads : (k : ℕ) (p : Progress) (l : FileLine) → isRefused p ≡ false → next k p l ≡ read k p l
-unfolding isRefused next
-reads k begins l e = refl
-reads k (gathers s plants profile) l e = refl
-reads k (settles plants profile m g) l e = refl
-reads k (refuses j n) l e = absurd (false≢true (sym e))
+use Rattle.file_lines.specs.File.{FileLine, whole, unfinished, linesAfter, lines, Progress, refuses, read, next, refusal, following, settledFile}
+use Rattle.file_lines.specs.State.{isRefused}
+use Rattle.month_file.specs.Bytes.{Reading, ended, longer, byte, fed, fedParts, start, finished, Promised}
+use Rattle.file_lines.proofs.Following.{stays, refused-is, reads}
 
 -- a line of more than 8,192 bytes is refused by 26
 pub too-long : (k : ℕ) (p : Progress) (l : FileLine) → isRefused p ≡ false → 8192 < length (l .bytes) → next k p l ≡ refuses k 26

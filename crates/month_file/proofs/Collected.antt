@@ -8,8 +8,9 @@ use native.Mathlib.Omega.{arith}
 use borrow.Author.Tests.{ne-eqb, lt-ltb}
 use lib.ListN.{length, take, drop, set, getD, length-set}
 use lib.Seq.{drop-cons, take-suc-set, length-take-le}
-use Rattle.month_file.specs.File.{Progress}
-use Rattle.month_file.specs.Bytes.{Reading, isRefused, longer, byte, fed}
+use Rattle.file_lines.specs.File.{Progress}
+use Rattle.file_lines.specs.State.{isRefused}
+use Rattle.month_file.specs.Bytes.{Reading, longer, byte, fed}
 use Rattle.month_file.specs.Machine.{Collected}
 
 abbrev reading : List ℕ → ℕ → Progress → Reading

@@ -9,11 +9,11 @@ use lib.ListN.{length, take, getD, length-append}
 use lib.Seq.{length-take-le}
 use Rattle.lists.specs.Questions.{outcome}
 use Rattle.lists.proofs.Questions.{accepted, refuses, outcome-part, asked, both, limits, then-zero}
-use Rattle.lines.specs.Figures.{figure, figureLength}
+use Rattle.figures.specs.Figures.{figure, figureLength}
 use Rattle.lines.specs.Reading.{readNumber, ReadEnd, readCall}
 use Rattle.lines.specs.declared.reading.Line.{Line}
 use Rattle.lines.proofs.Accepted.{read-number}
-use Rattle.lines.proofs.Decimal.{length-le-20}
+use Rattle.figures.proofs.Decimal.{length-le-20}
 use Rattle.hour.specs.declared.Plant.{Plant}
 use Rattle.hour.specs.Table.{plantsOf}
 use Rattle.ledger.specs.Ledger.{Ledger}
@@ -29,15 +29,17 @@ use Rattle.statement.specs.Writing.{Stateable, Fills}
 use Rattle.statement.proofs.Text.{text-columns}
 use Rattle.statement.proofs.Limits.{callable}
 use Rattle.statement.proofs.Parts.{Left, left-whole}
-use Rattle.month_file.specs.declared.MonthFile.{MonthFile}
-use Rattle.month_file.specs.File as file
-use Rattle.month_file.specs.File.{unfinished, Progress, read, refusal, printed, following}
+use Rattle.file_lines.specs.declared.MonthFile.{MonthFile}
+use Rattle.file_lines.specs.File as file
+use Rattle.file_lines.specs.File.{unfinished, Progress, read, refusal, printed, following}
 use Rattle.month_file.specs.Bytes.{finished}
-use Rattle.month_file.specs.Machine.{Kept, rowsOf, ledgerOf, progressOf, readingOf, Settling, Valid, atRefusal, unendedNumber, Finishable, Ended}
-use Rattle.month_file.proofs.Bytes.{stays, reads, unfinished-some}
-use Rattle.month_file.proofs.Rows.{length-rows}
-use Rattle.month_file.proofs.Gathered.{gathers-is}
-use Rattle.month_file.proofs.Taken.{by-stage, begins-is, settles-is, unrefused}
+use Rattle.file_lines.specs.State.{Kept, rowsOf, ledgerOf, progressOf, Settling, Valid, atRefusal}
+use Rattle.month_file.specs.Machine.{readingOf, unendedNumber, Finishable, AtEnd}
+use Rattle.file_lines.proofs.Following.{stays, reads}
+use Rattle.month_file.proofs.Bytes.{unfinished-some}
+use Rattle.file_lines.proofs.Rows.{length-rows}
+use Rattle.file_lines.proofs.Gathered.{gathers-is}
+use Rattle.file_lines.proofs.Taken.{by-stage, begins-is, settles-is, unrefused}
 use Rattle.month_file.proofs.Parts.{refused-progress}
 
 -- ---- the refusal's text, field by field
@@ -80,7 +82,7 @@ unended-reads k p bytes = sym (outcome-part (file.refuses k) (readNumber bytes 5
 -- ---- the state after the last byte
 
 module _ (f : MonthFile) (k : Kept) (v : Valid f k) (line : List ℕ) where
-  pub ended-refused : 2 < f .stage → Ended f k line f
+  pub ended-refused : 2 < f .stage → AtEnd f k line f
   unfolding finished readingOf printed
   ended-refused s =
       record {
@@ -89,12 +91,12 @@ module _ (f : MonthFile) (k : Kept) (v : Valid f k) (line : List ℕ) where
       }
 
   -- refused at the end
-  at-refusal : (n : ℕ) (r : MonthFile) → r ≡ atRefusal f n → finished (readingOf f k line) ≡ refusal (f .count + 1) n → Ended f k line r
+  at-refusal : (n : ℕ) (r : MonthFile) → r ≡ atRefusal f n → finished (readingOf f k line) ≡ refusal (f .count + 1) n → AtEnd f k line r
   unfolding printed progressOf atRefusal
   at-refusal n r e p = record { prints = rw e p; finishable = λ h. absurd (omega (arith, ap (λ (m : MonthFile). m .stage) e)) }
 
   module _ (due : f .stage ≤ 2) where
-    pub ended-line : f .length ≤ length line → (f .length ≡ 0 → ⊥) → (r : MonthFile) → r ≡ atRefusal f (unendedNumber (take (f .length) line)) → Ended f k line r
+    pub ended-line : f .length ≤ length line → (f .length ≡ 0 → ⊥) → (r : MonthFile) → r ≡ atRefusal f (unendedNumber (take (f .length) line)) → AtEnd f k line r
     unfolding finished readingOf following printed
     ended-line fits some r e =
         at-refusal _ r e
@@ -106,17 +108,17 @@ module _ (f : MonthFile) (k : Kept) (v : Valid f k) (line : List ℕ) where
       unfolding finished readingOf following unfinished
       no-line = rw none
 
-      pub ended-early : (f .stage ≡ 2 → ⊥) → (r : MonthFile) → r ≡ atRefusal f 31 → Ended f k line r
+      pub ended-early : (f .stage ≡ 2 → ⊥) → (r : MonthFile) → r ≡ atRefusal f 31 → AtEnd f k line r
       unfolding printed
       ended-early h r e =
           at-refusal 31 r e (no-line ∙ by-stage (f .stage) due (λ q. ap (printed (f .count)) (begins-is f k q)) (λ q. ap (printed (f .count)) (gathers-is f k q)) (λ q. absurd (h q)))
 
-      pub ended-short : f .stage ≡ 2 → f .month .due ≤ f .month .periods → (r : MonthFile) → r ≡ atRefusal f 31 → Ended f k line r
+      pub ended-short : f .stage ≡ 2 → f .month .due ≤ f .month .periods → (r : MonthFile) → r ≡ atRefusal f 31 → AtEnd f k line r
       unfolding printed
       ended-short h d r e =
           at-refusal 31 r e (no-line ∙ ap (printed (f .count)) (settles-is f k h) ∙ rw (ne-eqb (f .month .due) (f .month .periods + 1) (λ q. omega arith)))
 
-      pub ended-settled : f .stage ≡ 2 → f .month .periods < f .month .due → Ended f k line f
+      pub ended-settled : f .stage ≡ 2 → f .month .periods < f .month .due → AtEnd f k line f
       ended-settled h d =
           record { prints = no-line; finishable = λ _. record { valid = v; settling = h; last = omega (arith, v .settling h .due) } }
 
@@ -218,7 +220,7 @@ module _ (f : MonthFile) (k : Kept) (w : Finishable f k) (end : month.Ended) (e 
 
 -- ---- what is printed
 
-module _ (f : MonthFile) (k : Kept) (line : List ℕ) (r : MonthFile) (e : Ended f k line r) {before : List ℕ} {n : ℕ} {after : List ℕ} where
+module _ (f : MonthFile) (k : Kept) (line : List ℕ) (r : MonthFile) (e : AtEnd f k line r) {before : List ℕ} {n : ℕ} {after : List ℕ} where
   pub finishes : Fills (printed (r .count) (progressOf r k)) before n after → Fills (finished (readingOf f k line)) before n after
   finishes h = subst (λ (t : List ℕ). Fills t before n after) (sym (e .prints)) h
 

@@ -1,12 +1,6 @@
--- Laws of the month file.
+-- Laws of the month file's bytes.
 pub mod Bytes
 pub mod Collected
-pub mod Rows
-pub mod Moves
-pub mod Opened
-pub mod Gathered
-pub mod Settled
-pub mod Taken
 pub mod Parts
 pub mod Ends
 pub mod Run

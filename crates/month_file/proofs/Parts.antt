@@ -1,6 +1,6 @@
 -- The bytes of a part, taken line by line. Assumes nothing.
 use mathlib.Core.Path.{_≡_, refl, sym, ap, _∙_}
-use mathlib.Core.Bool.{true, false}
+use mathlib.Core.Bool.{Bool, true, false, false≢true}
 use mathlib.Core.List.{List, [], _∷_}
 use Prim.Native.Nat.{ℕ, _+_, _-_, _≤_, _<_}
 use native.Mathlib.Numerals.{add-one}
@@ -8,14 +8,15 @@ use native.Mathlib.Omega.{arith}
 use borrow.Author.Tests.{eq-eqb, ne-eqb, le-ltb}
 use lib.ListN.{length, take, drop, getD, drop-of-length-le}
 use lib.Seq.{drop-cons, length-take-le}
-use Rattle.month_file.specs.declared.MonthFile.{MonthFile}
-use Rattle.month_file.specs.File as file
-use Rattle.month_file.specs.File.{whole, read}
-use Rattle.month_file.specs.Bytes.{Reading, isRefused, ended, longer, byte, fed}
-use Rattle.month_file.specs.Machine.{Kept, progressOf, readingOf, Collected, Valid, Moved, atRefusal, WorkLists, Advanced, Fed}
-use Rattle.month_file.proofs.Bytes.{reads}
-use Rattle.month_file.proofs.Moves.{refused-moved}
-use Rattle.month_file.proofs.Taken.{unrefused}
+use Rattle.file_lines.specs.declared.MonthFile.{MonthFile}
+use Rattle.file_lines.specs.File as file
+use Rattle.file_lines.specs.File.{whole, read}
+use Rattle.file_lines.specs.State.{isRefused, Kept, progressOf, Valid, Moved, atRefusal}
+use Rattle.month_file.specs.Bytes.{Reading, ended, longer, byte, fed}
+use Rattle.month_file.specs.Machine.{readingOf, Collected, WorkLists, Stepped, Fed}
+use Rattle.file_lines.proofs.Following.{reads}
+use Rattle.file_lines.proofs.Moves.{refused-moved}
+use Rattle.file_lines.proofs.Taken.{unrefused}
 
 -- after a refusal no byte matters
 fed-refused : (bs : List ℕ) (r : Reading) → isRefused (r .progress) ≡ true → fed r bs ≡ r
@@ -37,35 +38,6 @@ byte-full : (r : Reading) (b : ℕ) → isRefused (r .progress) ≡ false → (b
     → byte r b ≡ record { line = []; count = r .count + 1; progress = file.refuses (r .count + 1) 26 }
 unfolding byte longer
 byte-full r b e h l = rw (e, ne-eqb b 10 h, le-ltb (length (r .line)) 8192 l)
-
-module _ (f : MonthFile) (k : Kept) (v : Valid f k) (due : f .stage ≤ 2) (line part : List ℕ) (at : ℕ) (h : at < length part) where
-  -- ---- the end of a line
-
-  pub no-room : 8192 ≤ length line → (getD part at 0 ≡ 10 → ⊥) → f .length ≡ 8192 → (r : MonthFile) → r ≡ atRefusal f 26 → Advanced f k line part at r k line (at + 1)
-  unfolding readingOf atRefusal progressOf
-  no-room l b full r e =
-      record {
-        low = omega arith;
-        high = omega arith;
-        valid = rw e (refused-moved f k (v .lent) 26 .valid);
-        same = fed-at part at _ h
-            ∙ ap (λ (q : Reading). fed q (drop (at + 1) part))
-            (byte-full _ (getD part at 0) (unrefused f k v due) b (omega (arith, full, length-take-le (f .length) line (omega (arith, full)))) ∙ rw e);
-      }
-
-  pub line-ends : getD part at 0 ≡ 10 → {r : MonthFile} {q : Kept} → Moved f (read (f .count + 1) (progressOf f k) (whole (take (f .length) line))) r q
-      → Advanced f k line part at r q line (at + 1)
-  unfolding readingOf ended
-  line-ends b {r} {q} m =
-      record {
-        low = omega arith;
-        high = omega arith;
-        valid = m .valid;
-        same = fed-at part at _ h
-            ∙ ap (λ (o : Reading). fed o (drop (at + 1) part))
-            (byte-ends _ (getD part at 0) (unrefused f k v due) b
-            ∙ rw (m .stands, m .empty, m .counted, reads (f .count + 1) (progressOf f k) (whole (take (f .length) line)) (unrefused f k v due)));
-      }
 
 -- ---- the bytes of a line
 
@@ -105,34 +77,77 @@ module _ (f : MonthFile) (k : Kept) (v : Valid f k) (line part : List ℕ) (from
   is-refused s = ap isRefused (refused-progress f k s)
 
   -- after a refusal
-  pub skipped : 2 < f .stage → Advanced f k line part from f k line (length part)
+  pub skipped : 2 < f .stage → Stepped f k line part from f line (length part) false
   skipped s =
       record {
         low = h;
         high = omega arith;
         valid = v;
-        same = fed-refused (drop from part) _ (is-refused s) ∙ sym (fed-refused (drop (length part) part) _ (is-refused s));
+        goes = λ _. fed-refused (drop from part) _ (is-refused s) ∙ sym (fed-refused (drop (length part) part) _ (is-refused s));
+        ends = λ e. absurd (false≢true e);
+        due = λ e. absurd (false≢true e);
       }
 
   module _ (due : f .stage ≤ 2) (new : List ℕ) (end : ℕ) (c : Collected part from line (f .length) end new) where
     abbrev more : MonthFile
     more = lengthened f (f .length + (end - from))
 
-    pub valid-more : Valid more k
+    valid-more : Valid more k
     valid-more = valid-longer f k _ v (c .short)
+
+    going : isRefused (readingOf more k new .progress) ≡ false
+    unfolding readingOf
+    going = unrefused more k valid-more due
 
     collected-same : fed (readingOf f k line) (drop from part) ≡ fed (readingOf more k new) (drop end part)
     unfolding readingOf progressOf
     collected-same = c .same (f .count) (progressOf f k) (unrefused f k v due)
 
-    pub to-the-end : end ≡ length part → Advanced f k line part from more k new end
-    to-the-end e = record { low = omega arith; high = c .high; valid = valid-more; same = collected-same }
+    pub to-the-end : end ≡ length part → Stepped f k line part from more new end false
+    to-the-end e =
+        record {
+          low = omega arith;
+          high = c .high;
+          valid = valid-more;
+          goes = λ _. collected-same;
+          ends = λ b. absurd (false≢true b);
+          due = λ b. absurd (false≢true b);
+        }
 
-    pub full-there : (end ≡ length part → ⊥) → (getD part end 0 ≡ 10 → ⊥) → more .length ≡ 8192
-    full-there e b = c .full (omega (arith, c .high)) b
+    module _ (left : end ≡ length part → ⊥) where
+      inside : end < length part
+      inside = omega (arith, left, c .high)
 
-    pub after-line : {r : MonthFile} {q : Kept} → Advanced more k new part end r q new (end + 1) → Advanced f k line part from r q new (end + 1)
-    after-line a = record { low = omega (arith, c .low); high = a .high; valid = a .valid; same = collected-same ∙ a .same }
+      -- ... and a byte more
+      one-more : (q : Reading) → byte (readingOf more k new) (getD part end 0) ≡ q → fed (readingOf f k line) (drop from part) ≡ fed q (drop (end + 1) part)
+      one-more q e = collected-same ∙ fed-at part end _ inside ∙ ap (λ (r : Reading). fed r (drop (end + 1) part)) e
+
+      full : 8192 ≤ length new → (getD part end 0 ≡ 10 → ⊥) → 8192 ≤ length (readingOf more k new .line)
+      unfolding readingOf
+      full l b = omega (arith, c .full inside b, length-take-le (more .length) new (omega (arith, c .full inside b)))
+
+      pub no-room : 8192 ≤ length new → (getD part end 0 ≡ 10 → ⊥) → (r : MonthFile) → r ≡ atRefusal more 26 → Stepped f k line part from r new (end + 1) false
+      unfolding readingOf atRefusal progressOf
+      no-room l b r e =
+          record {
+            low = omega (arith, c .low);
+            high = omega (arith, inside);
+            valid = rw e (refused-moved more k (v .lent) 26 .valid);
+            goes = λ _. one-more _ (byte-full _ (getD part end 0) going b (full l b) ∙ rw e);
+            ends = λ t. absurd (false≢true t);
+            due = λ t. absurd (false≢true t);
+          }
+
+      pub line-ends : getD part end 0 ≡ 10 → Stepped f k line part from more new (end + 1) true
+      line-ends b =
+          record {
+            low = omega (arith, c .low);
+            high = omega (arith, inside);
+            valid = valid-more;
+            goes = λ t. absurd (false≢true (sym t));
+            ends = λ _. one-more _ (byte-ends _ (getD part end 0) going b);
+            due = λ _. due;
+          }
 
 -- ---- the part
 
@@ -188,6 +203,29 @@ pub room-alike : {line figures allotment : List ℕ} {k : Kept} {line₁ figures
     → Alike line figures allotment k line₁ figures₁ allotment₁ k₁ → WorkLists line₁ figures₁ allotment₁
 room-alike w s = record { bytes = omega (arith, w .bytes, s .bytes); places = s .places ∙ w .places; fours = omega (arith, w .fours, s .fours) }
 
+pub bytes-alike : {line line₁ figures allotment : List ℕ} {k : Kept} → length line₁ ≡ length line → Alike line figures allotment k line₁ figures allotment k
+bytes-alike l =
+    record {
+      bytes = l;
+      places = refl;
+      fours = refl;
+      submarket = refl;
+      number = refl;
+      guarantee = refl;
+      loss = refl;
+      availability = refl;
+      profile = refl;
+      allotted = refl;
+      accounts = refl;
+    }
+
+-- a line that has ended, taken
+line-taken : (f : MonthFile) (k : Kept) → Valid f k → f .stage ≤ 2 → (line : List ℕ) {r : MonthFile} {q : Kept}
+    → Moved f (read (f .count + 1) (progressOf f k) (whole (take (f .length) line))) r q → ended (readingOf f k line) ≡ readingOf r q line
+unfolding readingOf ended
+line-taken f k v due line m =
+    rw (m .stands, m .empty, m .counted, reads (f .count + 1) (progressOf f k) (whole (take (f .length) line)) (unrefused f k v due))
+
 -- a loop that has taken a part up to a byte
 pub record Feeding (part line₀ figures₀ allotment₀ : List ℕ) (k₀ : Kept) (f₀ : MonthFile) (line figures allotment : List ℕ) (k : Kept) (f : MonthFile) (at : ℕ) : Type 0 where
   pub high : at ≤ length part
@@ -208,15 +246,25 @@ module _ {part line₀ figures₀ allotment₀ : List ℕ} {k₀ : Kept} {f₀ :
       }
 
   module _ {line figures allotment : List ℕ} {k : Kept} {f : MonthFile} {at : ℕ} (c : Feeding part line₀ figures₀ allotment₀ k₀ f₀ line figures allotment k f at) where
-    pub feeding-more : {line₁ figures₁ allotment₁ : List ℕ} {k₁ : Kept} {f₁ : MonthFile} {to : ℕ} → Advanced f k line part at f₁ k₁ line₁ to
-        → Alike line figures allotment k line₁ figures₁ allotment₁ k₁ → Feeding part line₀ figures₀ allotment₀ k₀ f₀ line₁ figures₁ allotment₁ k₁ f₁ to
-    feeding-more a s =
+    -- bytes that end no line
+    pub feeding-on : {f₁ : MonthFile} {line₁ : List ℕ} {to : ℕ} {isEnded : Bool} → Stepped f k line part at f₁ line₁ to isEnded → isEnded ≡ false → length line₁ ≡ length line
+        → Feeding part line₀ figures₀ allotment₀ k₀ f₀ line₁ figures allotment k f₁ to
+    feeding-on s e l =
+        let a = bytes-alike l in
+        record { high = s .high; room = room-alike (c .room) a; alike = alike-more (c .alike) a; valid = s .valid; same = c .same ∙ s .goes e }
+
+    -- ... and a line that is taken
+    pub feeding-line : {f₁ : MonthFile} {line₁ : List ℕ} {to : ℕ} {isEnded : Bool} → Stepped f k line part at f₁ line₁ to isEnded → isEnded ≡ true → length line₁ ≡ length line
+        → {figures₁ allotment₁ : List ℕ} {k₁ : Kept} {f₂ : MonthFile} → Moved f₁ (read (f₁ .count + 1) (progressOf f₁ k) (whole (take (f₁ .length) line₁))) f₂ k₁
+        → Alike line₁ figures allotment k line₁ figures₁ allotment₁ k₁ → Feeding part line₀ figures₀ allotment₀ k₀ f₀ line₁ figures₁ allotment₁ k₁ f₂ to
+    feeding-line {f₁} {line₁} {to} s e l m w =
+        let a = alike-more (bytes-alike l) w in
         record {
-          high = a .high;
-          room = room-alike (c .room) s;
-          alike = alike-more (c .alike) s;
-          valid = a .valid;
-          same = c .same ∙ a .same;
+          high = s .high;
+          room = room-alike (c .room) a;
+          alike = alike-more (c .alike) a;
+          valid = m .valid;
+          same = c .same ∙ s .ends e ∙ ap (λ (r : Reading). fed r (drop to part)) (line-taken f₁ k (s .valid) (s .due e) line₁ m);
         }
 
     pub all-fed : length part ≤ at → Fed f₀ k₀ line₀ part f k line

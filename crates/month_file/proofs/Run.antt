@@ -1,13 +1,14 @@
 -- The machine over a whole file. Assumes nothing.
-use mathlib.Core.Path.{_≡_, refl, ap, subst, _∙_}
+use mathlib.Core.Path.{_≡_, refl, sym, ap, subst, _∙_}
 use mathlib.Core.List.{List, _∷_, flatten}
 use Prim.Native.Nat.{ℕ}
 use native.Mathlib.Omega.{arith}
 use Rattle.statement.specs.Writing.{Fills}
-use Rattle.month_file.specs.declared.MonthFile.{MonthFile}
-use Rattle.month_file.specs.File.{settledFile}
+use Rattle.file_lines.specs.declared.MonthFile.{MonthFile}
+use Rattle.file_lines.specs.File.{settledFile}
 use Rattle.month_file.specs.Bytes.{Reading, fedParts, finished}
-use Rattle.month_file.specs.Machine.{Kept, progressOf, readingOf, Lent, Valid, Fresh}
+use Rattle.file_lines.specs.State.{Kept, progressOf, Lent, Valid, atStart}
+use Rattle.month_file.specs.Machine.{readingOf, Fresh}
 use Rattle.month_file.specs.Run.{Place, Feeds, none, more, Promised}
 use Rattle.month_file.proofs.Bytes as bytes
 
@@ -34,16 +35,20 @@ promised = record { valid = λ s r. feeds-valid (s .valid) r; written = feeds-wr
 
 -- ---- before the first byte
 
-pub fresh-is : (f : MonthFile) → f .stage ≡ 0 → f .length ≡ 0 → f .count ≡ 0 → (k : Kept) (line : List ℕ) → Lent k → Fresh f k line
+start-fresh : (k : Kept) (line : List ℕ) → Lent k → Fresh atStart k line
 unfolding readingOf progressOf
-fresh-is f s l c k line lent =
+start-fresh k line lent =
     record {
       valid = record {
         lent = lent;
         short = omega arith;
-        begun = λ e. c;
+        begun = λ e. refl;
         gathering = λ e. absurd (omega arith);
         settling = λ e. absurd (omega arith);
       };
-      stands = rw (s, l, c);
+      stands = refl;
     }
+
+-- what `fresh` answers
+pub fresh-is : {f : MonthFile} → f ≡ atStart → (k : Kept) (line : List ℕ) → Lent k → Fresh f k line
+fresh-is e k line lent = subst (λ (f : MonthFile). Fresh f k line) (sym e) (start-fresh k line lent)

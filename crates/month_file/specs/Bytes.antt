@@ -1,23 +1,18 @@
 -- The month file read byte by byte, in parts of any size, and that this prints what the file's definition says. Assumes nothing.
 use mathlib.Core.Path.{_≡_}
 use Prim.Native.Nat.{ℕ, _+_}
-use mathlib.Core.Bool.{Bool, true, false, cond}
+use mathlib.Core.Bool.{cond}
 use mathlib.Core.List.{List, [], _∷_, _++_, flatten}
 use lib.Dec.{eqb, ltb}
 use lib.ListN.{length}
-use Rattle.month_file.specs.File.{whole, unfinished, Progress, begins, gathers, settles, refuses, next, following, settledFile}
+use Rattle.file_lines.specs.File.{whole, unfinished, Progress, begins, refuses, next, following, settledFile}
+use Rattle.file_lines.specs.State.{isRefused}
 
 -- How far the bytes have come: the bytes of the line that has begun, how many lines were read before it, and how far these have come
 pub record Reading : Type 0 where
   pub line : List ℕ
   pub count : ℕ
   pub progress : Progress
-
-unfoldable pub isRefused : Progress → Bool
-isRefused begins = false
-isRefused (gathers s plants profile) = false
-isRefused (settles plants profile m l) = false
-isRefused (refuses k n) = true
 
 -- a byte 10: the line is read
 unfoldable pub ended : Reading → Reading

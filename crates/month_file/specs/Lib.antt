@@ -1,5 +1,4 @@
--- Document 01, 'The file and its statement': the month file, from its bytes to the bytes that are printed.
-pub mod File
+-- Document 01, 'The file and its statement': the bytes of the month file, taken in parts of any size.
 pub mod Worked
 pub mod Bytes
 pub mod Machine

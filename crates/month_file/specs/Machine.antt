@@ -1,71 +1,19 @@
--- The machine that reads the file: how its state and the lent lists stand for how far the bytes have come. Assumes nothing.
+-- The machine that reads the file's bytes: how its state and the lent lists stand for how far the bytes have come. Assumes nothing.
 use mathlib.Core.Path.{_≡_}
 use Prim.Native.Nat.{ℕ, _+_, _-_, _*_, _≤_, _<_}
-use mathlib.Core.Bool.{Bool, true, false, cond, _&&_}
+use mathlib.Core.Bool.{Bool, true, false}
 use mathlib.Core.List.{List}
-use lib.Dec.{eqb, leb, ltb}
-use lib.IntN.{ℤ}
-use lib.ListN.{length, take, drop, set, getD}
+use lib.ListN.{length, take, drop, getD}
 use Rattle.lists.specs.Questions.{outcome}
 use Rattle.lines.specs.Reading.{readNumber}
-use Rattle.hour.specs.declared.Plant.{Plant}
-use Rattle.hour.specs.Table.{plantsOf}
-use Rattle.ledger.specs.Ledger.{Ledger, inBounds}
-use Rattle.month.specs.declared.Month.{Month}
-use Rattle.questions.specs.Questions.{rowsNumber}
-use Rattle.month_file.specs.declared.MonthFile.{MonthFile}
-use Rattle.month_file.specs.File.{Progress, begins, gathers, settles, refuses, opened, settled, printed}
-use Rattle.month_file.specs.Bytes.{Reading, isRefused, fed, start, finished}
-
--- The lent lists that hold what was read: the plant table's columns, the profile, the ledger
-pub record Kept : Type 0 where
-  pub submarket : List ℕ
-  pub number : List ℕ
-  pub guarantee : List ℕ
-  pub loss : List ℕ
-  pub availability : List ℕ
-  pub profile : List ℕ
-  pub allotted : List ℕ
-  pub accounts : List ℤ
-
-abbrev pub kept : List ℕ → List ℕ → List ℕ → List ℕ → List ℕ → List ℕ → List ℕ → List ℤ → Kept
-kept ss ns gs ls vs profile allotted accounts =
-    record { submarket = ss; number = ns; guarantee = gs; loss = ls; availability = vs; profile = profile; allotted = allotted; accounts = accounts }
-
--- the table's first n rows; the ledger of n plants
-unfoldable pub rowsOf : ℕ → Kept → List Plant
-rowsOf n k = plantsOf (take n (k .submarket)) (take n (k .number)) (take n (k .guarantee)) (take n (k .loss)) (take n (k .availability))
-
-unfoldable pub ledgerOf : ℕ → Kept → Ledger
-ledgerOf n k = record { allotted = take (4 * n) (k .allotted); accounts = take (2 * n) (k .accounts) }
-
--- how far the lines have come; the stages are numbered from 0 as `Progress` names them
-unfoldable pub progressOf : MonthFile → Kept → Progress
-progressOf f k =
-    cond (eqb (f .stage) 0) begins
-    (cond (eqb (f .stage) 1)
-    (gathers (record { periods = f .periods; plants = f .plants; tariff = f .tariff }) (rowsOf (f .rows) k) (take (f .figures) (k .profile)))
-    (cond (eqb (f .stage) 2)
-    (settles (rowsOf (f .month .plants) k) (take (f .month .periods) (k .profile)) (f .month) (ledgerOf (f .month .plants) k))
-    (refuses (f .count) (f .number))))
+use Rattle.file_lines.specs.declared.MonthFile.{MonthFile}
+use Rattle.file_lines.specs.File.{Progress, printed}
+use Rattle.file_lines.specs.State.{Kept, progressOf, isRefused, Valid}
+use Rattle.month_file.specs.Bytes.{Reading, ended, fed, start, finished}
 
 -- how far the bytes have come, with the bytes of the line that has begun at the front of a list
 unfoldable pub readingOf : MonthFile → Kept → List ℕ → Reading
 readingOf f k line = record { line = take (f .length) line; count = f .count; progress = progressOf f k }
-
--- 31: is a line with this start and first figure in turn, among P and H lines, among G lines, in the whole?
-unfoldable pub gatherTurn : MonthFile → ℕ → ℕ → Bool
-gatherTurn f start period = cond (ltb (f .rows) (f .plants)) (eqb start 2) (eqb start 3 && eqb period (f .figures + 1))
-
-unfoldable pub meterTurn : Month → ℕ → ℕ → Bool
-meterTurn m start period = eqb start 4 && (leb (m .due) (m .periods) && eqb period (m .due))
-
-unfoldable pub turn : MonthFile → ℕ → ℕ → Bool
-turn f start period =
-    cond (eqb (f .stage) 0) (eqb start 1)
-    (cond (eqb (f .stage) 1) (gatherTurn f start period)
-    (cond (eqb (f .stage) 2) (meterTurn (f .month) start period)
-    false))
 
 -- bytes taken from a part, from `from` on, to a line that has `at` bytes: they stop at `to`, at a byte 10, at the part's end, or where the line is full
 pub record Collected (part : List ℕ) (from : ℕ) (old : List ℕ) (at : ℕ) (to : ℕ) (new : List ℕ) : Type 0 where
@@ -76,114 +24,6 @@ pub record Collected (part : List ℕ) (from : ℕ) (old : List ℕ) (at : ℕ) 
   pub same : (count : ℕ) (p : Progress) → isRefused p ≡ false
       → fed (record { line = take at old; count = count; progress = p }) (drop from part)
       ≡ fed (record { line = take (at + (to - from)) new; count = count; progress = p }) (drop to part)
-
--- ---- what holds of the state and the lists at every line
-
--- the lent lists are long enough for every month
-pub record Lent (k : Kept) : Type 0 where
-  pub submarket : 512 ≤ length (k .submarket)
-  pub number : 512 ≤ length (k .number)
-  pub guarantee : 512 ≤ length (k .guarantee)
-  pub loss : 512 ≤ length (k .loss)
-  pub availability : 512 ≤ length (k .availability)
-  pub profile : 744 ≤ length (k .profile)
-  pub allotted : 4 * 512 ≤ length (k .allotted)
-  pub accounts : 2 * 512 ≤ length (k .accounts)
-
--- among P and H lines: what the first line names is in limits, and each line so far was one of these
-pub record Gathering (f : MonthFile) : Type 0 where
-  pub plants : f .plants ≤ 512
-  pub periods : f .periods ≤ 744
-  pub rows : f .rows ≤ f .plants
-  pub figures : f .figures < f .periods
-  pub counted : f .count ≡ 1 + f .rows + f .figures
-
--- among G lines: the table has passed 5 to 8, the ledger is in its bounds, and each line so far was the first, a P, an H or a G line
-pub record Settling (f : MonthFile) (k : Kept) : Type 0 where
-  pub plants : f .month .plants ≤ 512
-  pub periods : f .month .periods ≤ 744
-  pub due : f .month .due ≤ f .month .periods + 1
-  pub counted : f .count ≡ f .month .plants + f .month .periods + f .month .due
-  pub rows : rowsNumber 0 0 (rowsOf (f .month .plants) k) ≡ 0
-  pub bounded : inBounds (ledgerOf (f .month .plants) k) ≡ true
-
-pub record Valid (f : MonthFile) (k : Kept) : Type 0 where
-  pub lent : Lent k
-  pub short : f .length ≤ 8192
-  pub begun : f .stage ≡ 0 → f .count ≡ 0
-  pub gathering : f .stage ≡ 1 → Gathering f
-  pub settling : f .stage ≡ 2 → Settling f k
-
--- a line was read: the state r and the lists stand for this progress
-pub record Moved (f : MonthFile) (p : Progress) (r : MonthFile) (k : Kept) : Type 0 where
-  pub empty : r .length ≡ 0
-  pub counted : r .count ≡ f .count + 1
-  pub stands : progressOf r k ≡ p
-  pub valid : Valid r k
-
--- the state with one more line read, at a stage
-unfoldable pub atStage : MonthFile → ℕ → MonthFile
-atStage f stage =
-    record {
-      stage = stage;
-      length = 0;
-      count = f .count + 1;
-      plants = f .plants;
-      periods = f .periods;
-      tariff = f .tariff;
-      rows = f .rows;
-      figures = f .figures;
-      month = f .month;
-      number = f .number;
-    }
-
--- ... and a refusal
-unfoldable pub atRefusal : MonthFile → ℕ → MonthFile
-atRefusal f n =
-    record {
-      stage = 3;
-      length = 0;
-      count = f .count + 1;
-      plants = f .plants;
-      periods = f .periods;
-      tariff = f .tariff;
-      rows = f .rows;
-      figures = f .figures;
-      month = f .month;
-      number = n;
-    }
-
--- a row's figures stored at its place in the columns
-pub record RowStored (at : ℕ) (figures ss₀ ss ns₀ ns gs₀ gs ls₀ ls vs₀ vs : List ℕ) : Type 0 where
-  pub submarket : ss ≡ set ss₀ at (getD figures 0 0)
-  pub number : ns ≡ set ns₀ at (getD figures 1 0)
-  pub guarantee : gs ≡ set gs₀ at (getD figures 2 0)
-  pub loss : ls ≡ set ls₀ at (getD figures 3 0)
-  pub availability : vs ≡ set vs₀ at (getD figures 4 0)
-
--- what opening asks: the first line's sizes in limits, and each line so far but the one just read was the first, a P or an H line
-pub record Openable (f : MonthFile) (k : Kept) : Type 0 where
-  pub lent : Lent k
-  pub plants : f .plants ≤ 512
-  pub periods : f .periods ≤ 744
-  pub counted : f .count ≡ f .plants + f .periods
-
--- the month of the rows and the profile that are kept, opened
-unfoldable pub openedOf : MonthFile → Kept → Progress
-openedOf f k =
-    opened (f .count + 1) (record { periods = f .periods; plants = f .plants; tariff = f .tariff }) (rowsOf (f .plants) k) (take (f .periods) (k .profile))
-
--- the period due, settled with the metered figures of its line
-unfoldable pub settledOf : MonthFile → Kept → List ℕ → Progress
-settledOf f k metered =
-    settled (f .count + 1) (rowsOf (f .month .plants) k) (take (f .month .periods) (k .profile)) (f .month) (ledgerOf (f .month .plants) k) metered
-
--- the figures of a line in turn are as many as its taking reads
-pub record Figured (f : MonthFile) (figures : List ℕ) : Type 0 where
-  pub due : f .stage ≤ 2
-  pub some : 2 ≤ length figures
-  pub sizes : f .stage ≡ 0 → 3 ≤ length figures
-  pub row : f .stage ≡ 1 → f .rows < f .plants → 5 ≤ length figures
 
 -- ---- parts of the file
 
@@ -198,12 +38,15 @@ pub record WorkLists (line figures allotment : List ℕ) : Type 0 where
   pub places : length figures ≡ 513
   pub fours : 4 * 512 ≤ length allotment
 
--- bytes of a part were taken, up to `to`: the rest of it gives from here on what it gave from `from` on
-pub record Advanced (f : MonthFile) (k : Kept) (line part : List ℕ) (from : ℕ) (r : MonthFile) (q : Kept) (after : List ℕ) (to : ℕ) : Type 0 where
+-- bytes of a part were taken, up to `to`: the rest of it gives from here on what it gave from `from` on, once a line that has come to its byte 10
+-- is taken
+pub record Stepped (f : MonthFile) (k : Kept) (line part : List ℕ) (from : ℕ) (r : MonthFile) (after : List ℕ) (to : ℕ) (isEnded : Bool) : Type 0 where
   pub low : from < to
   pub high : to ≤ length part
-  pub valid : Valid r q
-  pub same : fed (readingOf f k line) (drop from part) ≡ fed (readingOf r q after) (drop to part)
+  pub valid : Valid r k
+  pub goes : isEnded ≡ false → fed (readingOf f k line) (drop from part) ≡ fed (readingOf r k after) (drop to part)
+  pub ends : isEnded ≡ true → fed (readingOf f k line) (drop from part) ≡ fed (ended (readingOf r k after)) (drop to part)
+  pub due : isEnded ≡ true → r .stage ≤ 2
 
 -- a part was taken: the state and the lists stand for its bytes, one by one
 pub record Fed (f : MonthFile) (k : Kept) (line part : List ℕ) (r : MonthFile) (q : Kept) (after : List ℕ) : Type 0 where
@@ -223,6 +66,6 @@ pub record Finishable (f : MonthFile) (k : Kept) : Type 0 where
   pub last : f .month .due ≡ f .month .periods + 1
 
 -- the input has ended: r is refused, or its last period is settled, and it prints what f and the line that has begun print
-pub record Ended (f : MonthFile) (k : Kept) (line : List ℕ) (r : MonthFile) : Type 0 where
+pub record AtEnd (f : MonthFile) (k : Kept) (line : List ℕ) (r : MonthFile) : Type 0 where
   pub prints : finished (readingOf f k line) ≡ printed (r .count) (progressOf r k)
   pub finishable : r .stage ≤ 2 → Finishable r k

@@ -2,10 +2,11 @@
 use mathlib.Core.List.{List, [], _∷_, flatten}
 use Prim.Native.Nat.{ℕ}
 use Rattle.statement.specs.Writing.{Fills}
-use Rattle.month_file.specs.declared.MonthFile.{MonthFile}
-use Rattle.month_file.specs.File.{settledFile}
+use Rattle.file_lines.specs.declared.MonthFile.{MonthFile}
+use Rattle.file_lines.specs.File.{settledFile}
 use Rattle.month_file.specs.Bytes.{finished}
-use Rattle.month_file.specs.Machine.{Kept, readingOf, Valid, Fresh, Fed}
+use Rattle.file_lines.specs.State.{Kept, Valid}
+use Rattle.month_file.specs.Machine.{readingOf, Fresh, Fed}
 
 -- what goes on from part to part: the state, the lists that it keeps, and the line that has begun
 pub record Place : Type 0 where

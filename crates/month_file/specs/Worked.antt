@@ -6,18 +6,20 @@ use Rattle.lists.specs.Lists.{sum, sumℤ, every, atMost}
 use Rattle.lists.specs.Columns.{rowwise, joined, totals, transpose, column}
 use Rattle.lists.specs.Questions.{_then_, firstNo, inRange, outcome}
 use Rattle.signed.specs.Figures.{isWithin, accountsOf}
-use Rattle.sharing.specs.Sharing.{parts, share, serve, transfer}
-use Rattle.cover.specs.Cover.{portion, own, ownParts, table, got, rest}
+use Rattle.sharing.specs.Sharing.{parts, share}
+use Rattle.transfer.specs.Transfer.{serve, transfer}
+use Rattle.blocks.specs.Portion.{portion}
+use Rattle.cover.specs.Cover.{own, ownParts, table, got, rest}
 use Rattle.hour.specs.Hour.{hourOf, modulated, guaranteed, submarkets, guarantees, secondary, covered, deficit, surplus, leftOver, rights, ownCover, coverGot, ownSecondary, secondaryGot, coverTable, secondaryTable, figure, nets, allotment, accounts}
 use Rattle.ledger.specs.Ledger.{inBounds, zeros, added}
-use Rattle.lines.specs.Figures as text
+use Rattle.figures.specs.Figures as text
 use Rattle.lines.specs.Fields.{toFirst, fields}
 use Rattle.lines.specs.Reading.{startsWith, lineStart, startLength, lineFields, countFits, readNumber}
 use Rattle.questions.specs.Questions.{sizesNumber, placed, numbered, rowNumber, rowsNumber, lengthsNumber, tablesNumber}
 use Rattle.month.specs.Questions.{isOpen, isBlank, openNumber, ownNumber, meteredNumber, posted, boundsNumber, settleNumber, closeNumber}
 use Rattle.month.specs.Calls.{openCall, settleCall, closeCall}
 use Rattle.statement.specs.Statement.{line, plantLine, plantLines, totalLine, statementText}
-use Rattle.month_file.specs.File.{unfinished, linesAfter, lines, plantOf, inTurn, begun, opened, settled, taken, read, next, refusal, printed, following, settledFile}
+use Rattle.file_lines.specs.File.{unfinished, linesAfter, lines, plantOf, inTurn, begun, opened, settled, taken, read, next, refusal, printed, following, settledFile}
 
 -- `MRE,1,1,3,1300` and its byte 10
 abbrev sizes : List ℕ

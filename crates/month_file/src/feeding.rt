@@ -1,85 +1,30 @@
 // The file's bytes, in parts of any size.
-use crate::MonthFile;
 use crate::collecting::collect;
-use crate::taking::take_line;
+use file_lines::MonthFile;
+use file_lines::taking::take_line;
 ghost use mathlib.Core.Path.{_≡_};
-ghost use Prim.Native.Nat.{_+_, _≤_, _<_};
-ghost use lib.ListN.{length, getD};
-ghost use Rattle.month_file.specs.Machine.{kept, Valid, WorkLists, Advanced, Fed};
+ghost use Prim.Native.Nat.{_≤_, _<_};
+ghost use lib.ListN.{length};
+ghost use Rattle.file_lines.specs.State.{Kept, kept, Valid};
+ghost use Rattle.month_file.specs.Machine.{WorkLists, Stepped, Fed};
 
-// The line is collected up to a byte of the part: its byte 10, or one for which it has no room, 26.
-fn end_line(
-    file: MonthFile,
-    part: &[u8],
-    at: usize,
-    line: &[u8],
-    figures: &mut [u64],
-    submarket: &mut [u64],
-    number: &mut [u64],
-    guarantee: &mut [u64],
-    loss: &mut [u64],
-    availability: &mut [u64],
-    profile: &mut [u64],
-    allotment: &mut [u64],
-    allotted: &mut [u64],
-    accounts: &mut [i64],
-) -> MonthFile
-    requires { ⌜ (file .stage ≤ 2) × (at < length (now part)) × ((getD (now part) at 0 ≡ 10 → ⊥) → file .length ≡ 8192) ⌝ }
-    requires { ⌜ WorkLists (now line) (now figures) (now allotment) ⌝ }
-    requires { ⌜ Valid file (kept (now submarket) (now number) (now guarantee) (now loss) (now availability) (now profile) (now allotted) (now accounts)) ⌝ }
-    ensures { λ r. ⌜ Advanced file (kept (now (submarket .entry)) (now (number .entry)) (now (guarantee .entry)) (now (loss .entry)) (now (availability .entry)) (now (profile .entry)) (now (allotted .entry)) (now (accounts .entry))) (now (line .entry)) (now (part .entry)) at r (kept (now (submarket .exit)) (now (number .exit)) (now (guarantee .exit)) (now (loss .exit)) (now (availability .exit)) (now (profile .exit)) (now (allotted .exit)) (now (accounts .exit))) (now (line .entry)) (at + 1) ⌝ }
-{
-    if part[at] != 10 {
-        return file.refused(26);
-    }
-    let length = file.length;
-    take_line(
-        file,
-        &line[..length],
-        figures,
-        submarket,
-        number,
-        guarantee,
-        loss,
-        availability,
-        profile,
-        allotment,
-        allotted,
-        accounts,
-    )
-}
-
-// How far the file and the part have come.
+// How far the file and the part have come, and whether the line has come to its byte 10.
 struct Step {
     file: MonthFile,
     at: usize,
+    ended: bool,
 }
 
-// The bytes up to the end of a line, or of the part; after a refusal none matters.
-fn next_line(
-    file: MonthFile,
-    part: &[u8],
-    from: usize,
-    line: &mut [u8],
-    figures: &mut [u64],
-    submarket: &mut [u64],
-    number: &mut [u64],
-    guarantee: &mut [u64],
-    loss: &mut [u64],
-    availability: &mut [u64],
-    profile: &mut [u64],
-    allotment: &mut [u64],
-    allotted: &mut [u64],
-    accounts: &mut [i64],
-) -> Step
-    requires { ⌜ (from < length (now part)) × WorkLists (now line) (now figures) (now allotment) ⌝ }
-    requires { ⌜ Valid file (kept (now submarket) (now number) (now guarantee) (now loss) (now availability) (now profile) (now allotted) (now accounts)) ⌝ }
-    ensures { λ r. ⌜ Advanced file (kept (now (submarket .entry)) (now (number .entry)) (now (guarantee .entry)) (now (loss .entry)) (now (availability .entry)) (now (profile .entry)) (now (allotted .entry)) (now (accounts .entry))) (now (line .entry)) (now (part .entry)) from (r .file) (kept (now (submarket .exit)) (now (number .exit)) (now (guarantee .exit)) (now (loss .exit)) (now (availability .exit)) (now (profile .exit)) (now (allotted .exit)) (now (accounts .exit))) (now (line .exit)) (r .at) ⌝ }
+// The bytes up to the end of a line, or of the part. One for which the line has no room gives 26; after a refusal none matters.
+fn next_line(file: MonthFile, part: &[u8], from: usize, line: &mut [u8]) -> Step
+    requires { ⌜ (from < length (now part)) × (8192 ≤ length (now line)) × (file .length ≤ 8192) × (file .stage ≤ 2 → file .count < 10000) ⌝ }
+    ensures { λ r. ⌜ ((k : Kept) → Valid file k → Stepped file k (now (line .entry)) (now (part .entry)) from (r .file) (now (line .exit)) (r .at) (r .ended)) ⌝ }
 {
     if 2 < file.stage {
         return Step {
             file,
             at: part.len(),
+            ended: false,
         };
     }
     let length = file.length;
@@ -87,26 +32,26 @@ fn next_line(
     let mut f = file;
     f.length = length + (end - from);
     if end == part.len() {
-        return Step { file: f, at: end };
+        return Step {
+            file: f,
+            at: end,
+            ended: false,
+        };
     }
     let at = end + 1;
-    let next = end_line(
-        f,
-        part,
-        end,
-        line,
-        figures,
-        submarket,
-        number,
-        guarantee,
-        loss,
-        availability,
-        profile,
-        allotment,
-        allotted,
-        accounts,
-    );
-    Step { file: next, at }
+    if part[end] != 10 {
+        let refused = f.refused(26);
+        return Step {
+            file: refused,
+            at,
+            ended: false,
+        };
+    }
+    Step {
+        file: f,
+        at,
+        ended: true,
+    }
 }
 
 // One part of the file: line by line, to the part's end.
@@ -132,24 +77,26 @@ pub fn feed(
     let mut f = file;
     let mut at: usize = 0;
     while at < part.len() {
-        let step = next_line(
-            f,
-            part,
-            at,
-            line,
-            figures,
-            submarket,
-            number,
-            guarantee,
-            loss,
-            availability,
-            profile,
-            allotment,
-            allotted,
-            accounts,
-        );
+        let step = next_line(f, part, at, line);
         f = step.file;
         at = step.at;
+        if step.ended {
+            let length = f.length;
+            f = take_line(
+                f,
+                &line[..length],
+                figures,
+                submarket,
+                number,
+                guarantee,
+                loss,
+                availability,
+                profile,
+                allotment,
+                allotted,
+                accounts,
+            );
+        }
     }
     f
 }

@@ -1,16 +1,17 @@
 // The end of the file: the statement after close, or the refusal, is written.
-use crate::MonthFile;
-use lines::figures::write_byte;
-use lines::figures::write_field;
+use figures::writing::write_byte;
+use figures::writing::write_field;
+use file_lines::MonthFile;
 use lines::reading::read_line;
 use statement::writing::write_statement;
 ghost use mathlib.Core.Path.{_≡_};
 ghost use Prim.Native.Nat.{_+_, _*_, _≤_, _<_};
 ghost use lib.ListN.{length};
 ghost use Rattle.statement.specs.Writing.{Fills};
-ghost use Rattle.month_file.specs.File.{refusal, printed};
+ghost use Rattle.file_lines.specs.File.{refusal, printed};
 ghost use Rattle.month_file.specs.Bytes.{finished};
-ghost use Rattle.month_file.specs.Machine.{Kept, kept, progressOf, readingOf, Valid, atRefusal, unendedNumber, Ended, Finishable};
+ghost use Rattle.file_lines.specs.State.{Kept, kept, progressOf, Valid, atRefusal};
+ghost use Rattle.month_file.specs.Machine.{readingOf, unendedNumber, AtEnd, Finishable};
 
 // `R,line,number` alone.
 fn write_refusal(line: u64, number: u64, text: &mut [u8]) -> usize
@@ -38,7 +39,7 @@ fn unended(file: MonthFile, line: &[u8], figures: &mut [u64]) -> MonthFile
 // The state after the last byte. An early end is 31 too, as the line after the last.
 fn at_end(file: MonthFile, line: &[u8], figures: &mut [u64]) -> MonthFile
     requires { ⌜ (file .stage ≤ 2 → file .count < 10000) × (file .length ≤ length (now line)) × (length (now figures) ≡ 513) ⌝ }
-    ensures { λ r. ⌜ ((k : Kept) → Valid file k → Ended file k (now (line .entry)) r) ⌝ }
+    ensures { λ r. ⌜ ((k : Kept) → Valid file k → AtEnd file k (now (line .entry)) r) ⌝ }
 {
     if 2 < file.stage {
         return file;

@@ -9,9 +9,17 @@ use Rattle.lists.specs.Questions.{_⁇_, part, _then_, firstNo, inRange}
 use Rattle.hour.specs.declared.Plant.{Plant}
 use Rattle.ledger.specs.Ledger.{Ledger}
 
+-- 2: P in limits
+abbrev pub plantsInLimits : ℕ → Bool
+plantsInLimits = inRange 1 512
+
+-- 3: H in limits
+abbrev pub periodsInLimits : ℕ → Bool
+periodsInLimits = inRange 1 744
+
 -- 2, 3, 4: P, H and TEO in limits
 unfoldable pub sizesNumber : ℕ → ℕ → ℕ → ℕ
-sizesNumber p h tariff = firstNo (inRange 1 512 p ⁇ 2 ∷ inRange 1 744 h ⁇ 3 ∷ leb tariff 10000 ⁇ 4 ∷ [])
+sizesNumber p h tariff = firstNo (plantsInLimits p ⁇ 2 ∷ periodsInLimits h ⁇ 3 ∷ leb tariff 10000 ⁇ 4 ∷ [])
 
 -- 5: submarket 1 to 4 and not below the row before, of submarket s₀
 unfoldable pub placed : ℕ → ℕ → Bool

@@ -1,4 +1,5 @@
 // Questions 2 to 11, which several calls put (document 01, 'The questions'): each function answers the number of its definition.
+use lists::MOST;
 ghost use mathlib.Core.Path.{_≡_};
 ghost use mathlib.Core.Bool.{true};
 ghost use Prim.Native.Nat.{_*_, _^_, _≤_};
@@ -6,38 +7,43 @@ ghost use lib.ListN.{length};
 ghost use Rattle.lists.specs.Lists.{sum, atMost};
 ghost use Rattle.lists.specs.Questions.{inRange};
 ghost use Rattle.hour.specs.Table.{plantsOf, Equal};
-ghost use Rattle.questions.specs.Questions.{sizesNumber, placed, numbered, rowNumber, rowsNumber, lengthsNumber, tablesNumber};
-
-// The most that a profile figure or a metered figure can be, in kWh.
-pub const MOST: u64 = 2000000000;
-
-// 2, 3 and 4: P, H and TEO in limits.
-pub fn sizes_number(plants: u64, periods: u64, tariff: u64) -> u64
-    ensures { λ r. ⌜ r ≡ sizesNumber plants periods tariff ⌝ }
-{
-    if plants < 1 {
-        return 2;
-    }
-    if 512 < plants {
-        return 2;
-    }
-    if periods < 1 {
-        return 3;
-    }
-    if 744 < periods {
-        return 3;
-    }
-    if 10000 < tariff {
-        return 4;
-    }
-    0
-}
+ghost use Rattle.questions.specs.Questions.{plantsInLimits, periodsInLimits, sizesNumber, placed, numbered, rowNumber, rowsNumber, lengthsNumber, tablesNumber};
 
 // Is a figure from low up to high?
 pub fn in_range(low: u64, high: u64, figure: u64) -> bool
     ensures { λ r. ⌜ r ≡ inRange low high figure ⌝ }
 {
     low <= figure && figure <= high
+}
+
+// 2: P in limits?
+pub fn plants_in_limits(plants: u64) -> bool
+    ensures { λ r. ⌜ r ≡ plantsInLimits plants ⌝ }
+{
+    in_range(1, 512, plants)
+}
+
+// 3: H in limits?
+pub fn periods_in_limits(periods: u64) -> bool
+    ensures { λ r. ⌜ r ≡ periodsInLimits periods ⌝ }
+{
+    in_range(1, 744, periods)
+}
+
+// 2, 3 and 4: P, H and TEO in limits.
+pub fn sizes_number(plants: u64, periods: u64, tariff: u64) -> u64
+    ensures { λ r. ⌜ r ≡ sizesNumber plants periods tariff ⌝ }
+{
+    if !plants_in_limits(plants) {
+        return 2;
+    }
+    if !periods_in_limits(periods) {
+        return 3;
+    }
+    if 10000 < tariff {
+        return 4;
+    }
+    0
 }
 
 // 5: submarket 1 to 4, and not below that of the row above.

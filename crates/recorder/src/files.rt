@@ -1,91 +1,21 @@
-// The month file for C. The machine's state holds a month, so it crosses with the month's stage as a number too.
-use crate::months::KeptMonth;
-use crate::months::kept_of;
-use crate::months::month_of;
-use month_file::MonthFile;
+// The month file for C.
+use kept_file::KeptFed;
+use kept_file::KeptFile;
+use kept_file::KeptFinished;
 ghost use mathlib.Core.Path.{_≡_};
-ghost use mathlib.Core.List.{List};
-ghost use Prim.Native.Nat.{ℕ};
-ghost use Rattle.month_file.specs.Machine.{Kept, kept, Lent, Fresh};
+ghost use Rattle.file_lines.specs.State.{kept, atStart};
 ghost use Rattle.file_calls.specs.Checking.{FinishedAny};
-ghost use Rattle.recorder.specs.Files.{fileOf, keptFileOf, FileFed};
+ghost use Rattle.kept_file.specs.Files.{fileOf, keptFileOf, FileFed};
 
-// How far a month file has come, as the caller keeps it.
-#[repr(C)]
-pub struct KeptFile {
-    pub stage: u64,
-    pub length: u64,
-    pub count: u64,
-    pub plants: u64,
-    pub periods: u64,
-    pub tariff: u64,
-    pub rows: u64,
-    pub figures: u64,
-    pub month: KeptMonth,
-    pub number: u64,
-}
-
-// What feed answers: the number, and the state handed back.
-#[repr(C)]
-pub struct KeptFed {
-    pub number: u64,
-    pub file: KeptFile,
-}
-
-// What finish answers: the number, and how many bytes were written.
-#[repr(C)]
-pub struct KeptFinished {
-    pub number: u64,
-    pub length: u64,
-}
-
-// The state that is meant.
-fn file_of(kept: KeptFile) -> MonthFile
-    ensures { λ r. ⌜ r ≡ fileOf kept ⌝ }
-{
-    let month = month_of(kept.month);
-    MonthFile {
-        stage: kept.stage,
-        length: kept.length as usize,
-        count: kept.count,
-        plants: kept.plants,
-        periods: kept.periods,
-        tariff: kept.tariff,
-        rows: kept.rows as usize,
-        figures: kept.figures as usize,
-        month,
-        number: kept.number,
-    }
-}
-
-fn kept_file_of(file: MonthFile) -> KeptFile
-    ensures { λ r. ⌜ r ≡ keptFileOf file ⌝ }
-{
-    let month = kept_of(file.month);
-    KeptFile {
-        stage: file.stage,
-        length: file.length as u64,
-        count: file.count,
-        plants: file.plants,
-        periods: file.periods,
-        tariff: file.tariff,
-        rows: file.rows as u64,
-        figures: file.figures as u64,
-        month,
-        number: file.number,
-    }
-}
-
-// month_file::beginning::fresh.
+// kept_file::begin_kept.
 #[no_mangle]
 pub extern "C" fn iolwarch_file_begin() -> KeptFile
-    ensures { λ r. ⌜ ((k : Kept) (line : List ℕ) → Lent k → Fresh (fileOf r) k line) ⌝ }
+    ensures { λ r. ⌜ r ≡ keptFileOf atStart ⌝ }
 {
-    let file = month_file::beginning::fresh();
-    kept_file_of(file)
+    kept_file::begin_kept()
 }
 
-// file_calls::feed_any.
+// kept_file::feed_kept.
 #[no_mangle]
 pub extern "C" fn iolwarch_file_feed(
     file: KeptFile,
@@ -104,9 +34,8 @@ pub extern "C" fn iolwarch_file_feed(
 ) -> KeptFed
     ensures { λ r. ⌜ FileFed file (now (part .entry)) (record { held = kept (now (submarket .entry)) (now (number .entry)) (now (guarantee .entry)) (now (loss .entry)) (now (availability .entry)) (now (profile .entry)) (now (allotted .entry)) (now (accounts .entry)); line = now (line .entry); figures = now (figures .entry); allotment = now (allotment .entry) }) r (record { held = kept (now (submarket .exit)) (now (number .exit)) (now (guarantee .exit)) (now (loss .exit)) (now (availability .exit)) (now (profile .exit)) (now (allotted .exit)) (now (accounts .exit)); line = now (line .exit); figures = now (figures .exit); allotment = now (allotment .exit) }) ⌝ }
 {
-    let meant = file_of(file);
-    let fed = file_calls::feed_any(
-        meant,
+    kept_file::feed_kept(
+        file,
         part,
         line,
         figures,
@@ -119,21 +48,10 @@ pub extern "C" fn iolwarch_file_feed(
         allotment,
         allotted,
         accounts,
-    );
-    if fed.number != 0 {
-        return KeptFed {
-            number: fed.number,
-            file,
-        };
-    }
-    let after = fed.file;
-    KeptFed {
-        number: 0,
-        file: kept_file_of(after),
-    }
+    )
 }
 
-// file_calls::finish_any.
+// kept_file::finish_kept.
 #[no_mangle]
 pub extern "C" fn iolwarch_file_finish(
     file: KeptFile,
@@ -151,9 +69,8 @@ pub extern "C" fn iolwarch_file_finish(
 ) -> KeptFinished
     ensures { λ r. ⌜ FinishedAny (fileOf file) (record { held = kept (now (submarket .entry)) (now (number .entry)) (now (guarantee .entry)) (now (loss .entry)) (now (availability .entry)) (now (profile .entry)) (now (allotted .entry)) (now (accounts .entry)); line = now (line .entry); figures = now (figures .entry); text = now (text .entry) }) (record { number = r .number; length = r .length }) (record { held = kept (now (submarket .entry)) (now (number .entry)) (now (guarantee .entry)) (now (loss .entry)) (now (availability .entry)) (now (profile .entry)) (now (allotted .entry)) (now (accounts .entry)); line = now (line .entry); figures = now (figures .exit); text = now (text .exit) }) ⌝ }
 {
-    let meant = file_of(file);
-    let finished = file_calls::finish_any(
-        meant,
+    kept_file::finish_kept(
+        file,
         line,
         figures,
         submarket,
@@ -165,9 +82,5 @@ pub extern "C" fn iolwarch_file_finish(
         allotted,
         accounts,
         text,
-    );
-    KeptFinished {
-        number: finished.number,
-        length: finished.length as u64,
-    }
+    )
 }

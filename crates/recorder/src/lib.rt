@@ -1,8 +1,9 @@
 // The C interface: every public call under one prefix, with the contract of the call that it hands on. include/iolwarch.h
 // declares these functions for C.
-use sharing::Transferred;
+use transfer::Transferred;
 ghost use mathlib.Core.Path.{_≡_};
-ghost use Rattle.sharing.specs.Calls.{Shared, sharingCall, transferCall};
+ghost use Rattle.sharing.specs.Calls.{Shared, sharingCall};
+ghost use Rattle.transfer.specs.Calls.{transferCall};
 
 pub mod files;
 pub mod months;
@@ -22,12 +23,12 @@ pub struct BySubmarket {
     pub kwh: [u64; 4],
 }
 
-// sharing::transfer.
+// transfer::transfer.
 #[no_mangle]
 pub extern "C" fn iolwarch_transfer(left: BySubmarket, need: BySubmarket) -> Transferred
     ensures { λ r. ⌜ r ≡ transferCall (left .kwh) (need .kwh) ⌝ }
 {
     let left = left.kwh;
     let need = need.kwh;
-    sharing::transfer(left, need)
+    transfer::transfer(left, need)
 }

@@ -6,10 +6,11 @@ use native.Mathlib.Omega.{arith}
 use lib.ListN.{length, take, drop, length-append}
 use lib.Seq.{length-take-le}
 use Rattle.statement.specs.Writing.{Fills}
-use Rattle.month_file.specs.declared.MonthFile.{MonthFile}
-use Rattle.month_file.specs.File.{settledFile}
+use Rattle.file_lines.specs.declared.MonthFile.{MonthFile}
+use Rattle.file_lines.specs.File.{settledFile}
 use Rattle.month_file.specs.Bytes.{finished}
-use Rattle.month_file.specs.Machine.{Kept, readingOf, Valid, WorkLists, Fresh, Fed}
+use Rattle.file_lines.specs.State.{Kept, Valid}
+use Rattle.month_file.specs.Machine.{readingOf, WorkLists, Fresh, Fed}
 use Rattle.month_file.specs.Run.{Place, Feeds, none, more}
 use Rattle.month_file.proofs.Parts.{Alike, alike-self, alike-more, room-alike}
 use Rattle.month_file.proofs.Run as run

@@ -5,9 +5,9 @@ use mathlib.Core.Path.{_≡_}
 use mathlib.Core.List.{List, flatten}
 use Prim.Native.Nat.{ℕ}
 use Rattle.statement.specs.Writing.{Fills}
-use Rattle.month_file.specs.declared.MonthFile.{MonthFile}
-use Rattle.month_file.specs.File.{settledFile}
-use Rattle.month_file.specs.Machine.{Kept}
+use Rattle.file_lines.specs.declared.MonthFile.{MonthFile}
+use Rattle.file_lines.specs.File.{settledFile}
+use Rattle.file_lines.specs.State.{Kept}
 use Rattle.month_file.specs.Run.{Place, Feeds}
 
 abbrev pub place : MonthFile → Kept → List ℕ → Place

@@ -1,10 +1,10 @@
 // `settle-month`: reads a month file from standard input and writes its statement, or the refusal, to standard output (document 01, 'The file
 // and its statement'). All that it keeps lies in arrays of `main`.
+use file_lines::MonthFile;
+use file_lines::beginning::fresh;
 use libc::STDERR_FILENO;
 use libc::STDIN_FILENO;
 use libc::STDOUT_FILENO;
-use month_file::MonthFile;
-use month_file::beginning::fresh;
 use month_file::feeding::feed;
 use month_file::finishing::finish;
 ghost use mathlib.Core.Path.{_≡_};
@@ -12,7 +12,8 @@ ghost use mathlib.Core.Bool.{true};
 ghost use Prim.Native.Nat.{_*_, _+_, _≤_};
 ghost use lib.ListN.{length, take};
 ghost use Rattle.io.specs.Counts.{clamped};
-ghost use Rattle.month_file.specs.Machine.{kept, Lent, Valid, WorkLists, Fed};
+ghost use Rattle.file_lines.specs.State.{kept, Lent, Valid};
+ghost use Rattle.month_file.specs.Machine.{WorkLists, Fed};
 ghost use Rattle.settle_month.specs.Input.{place, Taken, Settled};
 
 // What was read: the state, and whether the input came to its end.
@@ -178,6 +179,11 @@ fn settle_input(
     )
 }
 
+// Writes a line to standard error. Where that fails too, nobody can be told.
+fn tell(line: &[u8]) {
+    io::write_all(STDERR_FILENO, line);
+}
+
 fn main() {
     let mut part = [0u8; 65536];
     let mut line = [0u8; 8192];
@@ -208,16 +214,10 @@ fn main() {
         &mut text,
     );
     if length == 0 {
-        io::write_all(
-            STDERR_FILENO,
-            b"settle-month: standard input cannot be read\n",
-        );
+        tell(b"settle-month: standard input cannot be read\n");
         return;
     }
     if !io::write_all(STDOUT_FILENO, &text[..length]) {
-        io::write_all(
-            STDERR_FILENO,
-            b"settle-month: standard output cannot be written\n",
-        );
+        tell(b"settle-month: standard output cannot be written\n");
     }
 }

@@ -1,5 +1,2 @@
--- Laws of sharing and of the transfer step.
+-- Laws of sharing.
 pub mod Sharing
-pub mod Served
-pub mod Same
-pub mod Asked

@@ -1,4 +1,4 @@
--- Sharing and the transfer step: the rule, its promises, and the two public calls.
+-- Sharing: the rule, its promises, and the public call.
 pub mod Sharing
 pub mod Laws
 pub mod Calls

@@ -54,13 +54,12 @@ pub fn add_at(figures: &mut [i64], at: usize, x: i64)
     figures[at] += x;
 }
 
-// The absolute value of a figure.
-pub fn magnitude(x: i64) -> u64
-    requires { ⌜ natAbs x < 2 ^ 63 ⌝ }
-    ensures { λ r. ⌜ r ≡ natAbs x ⌝ }
+// How far a figure is from zero. The lowest one has no opposite in 64 bits.
+pub fn magnitude(z: i64) -> u64
+    ensures { λ r. ⌜ r ≡ natAbs z ⌝ }
 {
-    if x < 0 {
-        return (0 - x) as u64;
+    if z < 0 {
+        return (0 - (z + 1)) as u64 + 1;
     }
-    x as u64
+    z as u64
 }

@@ -10,8 +10,8 @@ use lib.ListN.{length, take, drop, getD, length-take}
 use lib.Seq.{getD-take, getD-drop}
 use Rattle.lists.specs.Lists.{sum, Within}
 use Rattle.lists.specs.Columns.{four}
-use Rattle.lines.specs.Figures.{figure, minus, signedFigure, figureLength, signedFigureLength}
-use Rattle.lines.proofs.Decimal.{length-le, length-le-20, length-small}
+use Rattle.figures.specs.Figures.{figure, minus, signedFigure, figureLength, signedFigureLength}
+use Rattle.figures.proofs.Decimal.{length-le, length-le-20, length-small}
 use Rattle.hour.specs.declared.Plant.{Plant}
 use Rattle.hour.specs.Table.{plantsOf}
 use Rattle.hour.proofs.Table.{length-plants}

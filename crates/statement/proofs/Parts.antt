@@ -5,8 +5,8 @@ use Prim.Native.Nat.{ℕ, suc, _+_, _≤_, _<_}
 use native.Mathlib.Nat.{add-zero, zero-add}
 use native.Mathlib.Omega.{arith}
 use lib.ListN.{length, drop, length-append, take-append-drop}
-use Rattle.lines.specs.Figures.{written, Wrote}
-use Rattle.lines.proofs.Written.{written-next, length-written}
+use Rattle.figures.specs.Figures.{written, Wrote}
+use Rattle.figures.proofs.Written.{written-next, length-written}
 use Rattle.statement.specs.Writing.{Room, Fills}
 
 -- of the bytes to be written from at₀ on, `rest` is left to write, from `at` on

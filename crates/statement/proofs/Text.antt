@@ -11,7 +11,7 @@ use lib.Seq.{drop-drop, getD-drop}
 use Rattle.lists.specs.Lists.{sum}
 use Rattle.lists.specs.Columns.{four}
 use Rattle.lists.proofs.Loops.{rest-more, rest-none}
-use Rattle.lines.specs.Figures.{figure, signedFigure, figureLength, signedFigureLength}
+use Rattle.figures.specs.Figures.{figure, signedFigure, figureLength, signedFigureLength}
 use Rattle.hour.specs.declared.Plant.{Plant}
 use Rattle.hour.specs.Table.{plantsOf}
 use Rattle.hour.proofs.Table.{length-plants, row-at}

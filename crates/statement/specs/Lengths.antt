@@ -5,9 +5,9 @@ use lib.IntN.{ℤ, pos}
 use lib.ListN.{length, take, drop, getD}
 use Rattle.lists.specs.Lists.{sum}
 use Rattle.lists.specs.Columns.{four}
-use Rattle.lines.specs.Figures.{figureLength, signedFigureLength}
+use Rattle.figures.specs.Figures.{figureLength, signedFigureLength}
 use Rattle.hour.specs.declared.Plant.{Plant}
-use Rattle.ledger.specs.Ledger.{Ledger, allottedIn}
+use Rattle.ledger.specs.Ledger.{Ledger, allottedWidth, accountsWidth, allottedIn}
 
 -- figures, each with a comma before it
 unfoldable pub fieldsLength : List ℕ → ℕ
@@ -27,7 +27,7 @@ plantLineLength p figures net money =
 unfoldable pub plantLinesLength : List Plant → List ℕ → List ℤ → ℕ
 plantLinesLength [] allotted accounts = 0
 plantLinesLength (p ∷ ps) allotted accounts =
-    plantLineLength p (take 4 allotted) (getD accounts 0 (pos 0)) (getD accounts 1 (pos 0)) + plantLinesLength ps (drop 4 allotted) (drop 2 accounts)
+    plantLineLength p (take allottedWidth allotted) (getD accounts 0 (pos 0)) (getD accounts 1 (pos 0)) + plantLinesLength ps (drop allottedWidth allotted) (drop accountsWidth accounts)
 
 -- the T line: the sum with a comma before it, and the line's end
 unfoldable pub totalLineLength : ℕ → ℕ → List ℕ → ℕ

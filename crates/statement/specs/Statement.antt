@@ -6,9 +6,9 @@ use lib.IntN.{ℤ, pos}
 use lib.ListN.{length, take, drop, getD}
 use Rattle.lists.specs.Lists.{sum}
 use Rattle.lists.specs.Columns.{four}
-use Rattle.lines.specs.Figures.{figure, signedFigure}
+use Rattle.figures.specs.Figures.{figure, signedFigure}
 use Rattle.hour.specs.declared.Plant.{Plant}
-use Rattle.ledger.specs.Ledger.{Ledger, allottedIn}
+use Rattle.ledger.specs.Ledger.{Ledger, allottedWidth, accountsWidth, allottedIn}
 
 -- a line of text: fields parted by commas, and the byte 10 at its end
 unfoldable pub line : List (List ℕ) → List ℕ
@@ -25,7 +25,7 @@ plantLine p figures net money =
 unfoldable pub plantLines : List Plant → List ℕ → List ℤ → List ℕ
 plantLines [] allotted accounts = []
 plantLines (p ∷ ps) allotted accounts =
-    plantLine p (take 4 allotted) (getD accounts 0 (pos 0)) (getD accounts 1 (pos 0)) ++ plantLines ps (drop 4 allotted) (drop 2 accounts)
+    plantLine p (take allottedWidth allotted) (getD accounts 0 (pos 0)) (getD accounts 1 (pos 0)) ++ plantLines ps (drop allottedWidth allotted) (drop accountsWidth accounts)
 
 -- 'T: periods settled (the period due less 1), P, column sums, their sum'
 unfoldable pub totalLine : ℕ → ℕ → List ℕ → List ℕ

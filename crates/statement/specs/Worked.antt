@@ -5,7 +5,7 @@ use mathlib.Core.List.{List, [], _∷_, _++_}
 use lib.IntN.{pos, negsuc}
 use Rattle.lists.specs.Lists.{sum}
 use Rattle.lists.specs.Columns.{column}
-use Rattle.lines.specs.Figures.{digits, figure, minus, signedFigure}
+use Rattle.figures.specs.Figures.{digits, figure, minus, signedFigure}
 use Rattle.hour.specs.declared.Plant.{Plant}
 use Rattle.ledger.specs.Ledger.{Ledger}
 use Rattle.statement.specs.Statement.{line, plantLine, plantLines, totalLine, statementText}

@@ -5,9 +5,9 @@ use mathlib.Core.List.{List, [], _∷_, _++_}
 use Prim.Native.Nat.{ℕ, _+_, _*_, _≤_}
 use lib.IntN.{ℤ, pos}
 use lib.ListN.{length, take, drop, getD}
-use Rattle.lines.specs.Figures.{figure}
+use Rattle.figures.specs.Figures.{figure}
 use Rattle.hour.specs.declared.Plant.{Plant}
-use Rattle.ledger.specs.Ledger.{Ledger, inBounds}
+use Rattle.ledger.specs.Ledger.{Ledger, allottedWidth, accountsWidth, inBounds}
 use Rattle.statement.specs.Statement.{plantLine}
 
 -- figures, each with a comma before it
@@ -26,13 +26,13 @@ shown s n = record { submarket = s; number = n; guarantee = 0; loss = 0; availab
 -- the A line of row i, of columns and lists that run row by row
 unfoldable pub rowLine : List ℕ → List ℕ → List ℕ → List ℤ → ℕ → List ℕ
 rowLine submarket number allotted accounts i =
-    plantLine (shown (getD submarket i 0) (getD number i 0)) (take 4 (drop (4 * i) allotted)) (getD accounts (2 * i) (pos 0)) (getD accounts (2 * i + 1) (pos 0))
+    plantLine (shown (getD submarket i 0) (getD number i 0)) (take allottedWidth (drop (allottedWidth * i) allotted)) (getD accounts (accountsWidth * i) (pos 0)) (getD accounts (accountsWidth * i + 1) (pos 0))
 
 -- a row's submarket, number, four figures, net and money for each row
 pub record Even (submarket number allotted : List ℕ) (accounts : List ℤ) : Type 0 where
   pub numbers : length number ≡ length submarket
-  pub figures : length allotted ≡ 4 * length submarket
-  pub nets : length accounts ≡ 2 * length submarket
+  pub figures : length allotted ≡ allottedWidth * length submarket
+  pub nets : length accounts ≡ accountsWidth * length submarket
 
 -- what the inner forms ask: lists of those lengths, at most 512 rows (2), every ledger figure inside its bound (19)
 pub record Stateable (submarket number : List ℕ) (l : Ledger) : Type 0 where

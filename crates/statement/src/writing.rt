@@ -4,14 +4,16 @@ ghost use mathlib.Core.List.{[]};
 ghost use Prim.Native.Nat.{_≤_, _<_, _^_};
 ghost use lib.ListN.{length};
 ghost use Rattle.lists.specs.Lists.{sum};
-ghost use Rattle.lines.specs.Figures.{Wrote};
+ghost use Rattle.figures.specs.Figures.{Wrote};
 ghost use Rattle.statement.specs.Writing.{fieldsText, leading, shown, rowLine, Even, Stateable, Room, Fills};
 ghost use Rattle.hour.specs.Table.{plantsOf};
 ghost use Rattle.statement.specs.Statement.{plantLine, plantLines, totalLine, statementText};
 ghost use Rattle.statement.specs.Lengths.{statementLength};
-use lines::figures::write_byte;
-use lines::figures::write_field;
-use lines::figures::write_signed_field;
+use figures::writing::write_byte;
+use figures::writing::write_field;
+use figures::writing::write_signed_field;
+use ledger::ACCOUNTS;
+use ledger::ALLOTTED;
 
 // Figures, each with a comma before it.
 fn write_fields(figures: &[u64], text: &mut [u8], at: usize) -> usize
@@ -71,10 +73,10 @@ fn write_row(
     requires { ⌜ Room (rowLine (now submarket) (now number) (now allotted) (now accounts) i) at (now text) ⌝ }
     ensures { λ r. ⌜ Wrote (rowLine (now (submarket .entry)) (now (number .entry)) (now (allotted .entry)) (now (accounts .entry)) i) at (now (text .entry)) (now (text .exit)) r ⌝ }
 {
-    let start = 4 * i;
-    let stop = start + 4;
-    let net = accounts[2 * i];
-    let money = accounts[2 * i + 1];
+    let start = ALLOTTED * i;
+    let stop = start + ALLOTTED;
+    let net = accounts[ACCOUNTS * i];
+    let money = accounts[ACCOUNTS * i + 1];
     write_plant_line(
         submarket[i],
         number[i],

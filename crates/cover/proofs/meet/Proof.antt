@@ -6,11 +6,14 @@ use native.Mathlib.Omega.{arith}
 use lib.ListN.{length}
 use Rattle.lists.specs.Lists.{sum}
 use Rattle.lists.specs.Columns.{_⊖_, _⊓_, Below, four, totals}
-use Rattle.sharing.specs.Sharing.{share, serve, transfer}
-use Rattle.sharing.specs.Laws.{rowSum}
+use Rattle.sharing.specs.Sharing.{share}
+use Rattle.transfer.specs.Transfer.{serve, transfer}
+use Rattle.transfer.specs.Laws.{rowSum}
 use Rattle.sharing.proofs.Sharing.{share-lawful}
-use Rattle.cover.specs.Cover.{portion, own, ownParts, table, got}
-use Rattle.cover.specs.Blocks.{standingAt, Rising, Raised, inColumns, gotBy, SentWithin, Room}
+use Rattle.blocks.specs.Portion.{portion}
+use Rattle.cover.specs.Cover.{own, ownParts, table, got}
+use Rattle.blocks.specs.Blocks.{standingAt, Rising, Raised, inColumns, Room}
+use Rattle.cover.specs.Givers.{gotBy, SentWithin}
 use Rattle.cover.proofs.Cover.{transfer-asked}
 use Rattle.cover.proofs.Serving.{four-within}
 use Rattle.cover.proofs.Meeting.{min-left, min-right, fewer, room-first, sited, still-is, still-room, still-sized, sent-within, rows-below, rest-is, meets}

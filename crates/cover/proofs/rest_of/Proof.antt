@@ -5,7 +5,7 @@ use Prim.Native.Nat.{ℕ}
 use native.Mathlib.Omega.{arith}
 use Rattle.lists.specs.Columns.{_⊖_, Below}
 use Rattle.lists.proofs.Sums.{at-le-sum}
-use Rattle.sharing.specs.Laws.{rowSum}
+use Rattle.transfer.specs.Laws.{rowSum}
 use Rattle.cover.proofs.rest_of.Statement.{statement}
 use Rattle.cover.proofs.rest_of.Tie as tie
 

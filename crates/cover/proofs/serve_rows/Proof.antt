@@ -5,14 +5,15 @@ use Prim.Native.Nat.{ℕ, _-_, _≤_, _<_}
 use native.Mathlib.Omega.{arith}
 use lib.ListN.{length, getD}
 use Rattle.lists.proofs.Columns.{length-rowwise}
-use Rattle.sharing.specs.Sharing.{share, serve}
+use Rattle.sharing.specs.Sharing.{share}
+use Rattle.transfer.specs.Transfer.{serve}
 use Rattle.sharing.proofs.Sharing.{share-lawful}
-use Rattle.sharing.proofs.Served.{length-serve}
-use Rattle.cover.specs.Cover.{portion}
-use Rattle.cover.specs.Blocks.{standingAt, Rising}
-use Rattle.cover.proofs.Cover.{portion-sized}
-use Rattle.cover.proofs.Slices.{standing-length, standing-le}
-use Rattle.cover.proofs.Shares.{turn-fits, turn-less}
+use Rattle.transfer.proofs.Served.{length-serve}
+use Rattle.blocks.specs.Portion.{portion}
+use Rattle.blocks.specs.Blocks.{standingAt, Rising}
+use Rattle.blocks.proofs.Portion.{portion-sized}
+use Rattle.blocks.proofs.Slices.{standing-length, standing-le}
+use Rattle.blocks.proofs.Shares.{turn-fits, turn-less}
 use Rattle.cover.proofs.Serving.{Giving, giving, giving-more, row-fits, four-within, given}
 use borrow.Author.Needs.{needs}
 use Rattle.cover.proofs.serve_rows.Statement.{statement}

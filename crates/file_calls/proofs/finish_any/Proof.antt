@@ -2,7 +2,7 @@
 use native.Mathlib.Omega.{arith}
 use borrow.Author.Needs.{needs}
 use lib.Seq.{length-take-le}
-use Rattle.month_file.proofs.Opened.{front-count}
+use Rattle.file_lines.proofs.Opened.{front-count}
 use Rattle.file_calls.proofs.Checked.{finish-good, finish-refused, finish-written}
 use Rattle.file_calls.proofs.finish_any.Statement.{statement}
 use Rattle.file_calls.proofs.finish_any.Tie as tie

@@ -2,9 +2,9 @@
 use mathlib.Core.Path.{sym, _∙_}
 use native.Mathlib.Omega.{arith}
 use borrow.Author.Needs.{needs}
-use Rattle.month_file.specs.Machine.{rowsOf, ledgerOf, Settling}
-use Rattle.month_file.proofs.Rows.{equal-rows}
-use Rattle.month_file.proofs.Opened.{front-count}
+use Rattle.file_lines.specs.State.{rowsOf, ledgerOf, Settling}
+use Rattle.file_lines.proofs.Rows.{equal-rows}
+use Rattle.file_lines.proofs.Opened.{front-count}
 use Rattle.file_calls.proofs.Checked.{no, alike, by-value, denied, granted, settling-counted, settling-yes}
 use Rattle.file_calls.proofs.is_settling.Statement.{statement}
 use Rattle.file_calls.proofs.is_settling.Tie as tie

@@ -7,8 +7,8 @@ use borrow.Author.Needs.{needs}
 use Rattle.lists.specs.Lists.{sum}
 use Rattle.lists.specs.Columns.{_⊕_, four, byRow}
 use Rattle.cover.specs.Cover.{supplied}
-use Rattle.cover.specs.Blocks.{Rising, standingAt}
-use Rattle.cover.proofs.Starts.{standing-at, starts-rising}
+use Rattle.blocks.specs.Blocks.{Rising, standingAt}
+use Rattle.blocks.proofs.Starts.{standing-at, starts-rising}
 use Rattle.hour.proofs.Allotment.{allotment-built}
 use Rattle.hour.specs.Hour.{Hour, hourOf, submarkets, guarantees, secondary, covered, deficit, surplus, leftOver, rights, coverTable, secondaryTable, nets, allotment}
 use Rattle.hour.specs.Table.{plantsOf}

@@ -23,13 +23,13 @@ main-spec =
     (λ c. search needs)  -- slice-aggregate-settle-input-12
     (λ c. search needs)  -- slice-aggregate-settle-input-13
     (λ c κs. search needs)  -- settle-input-requires
-    (λ c. search needs)  -- slice-aggregate-write-all
-    (λ c κs. search needs)  -- write-all-requires
+    (λ c. search needs)  -- slice-aggregate-tell
+    (λ c κs. search needs)  -- tell-requires
     (λ c. search needs)  -- returns
     (λ c. omega (arith, settled-fits (c .before .before .before .before .before .before .before .before .before .before .before .before .before .before .settle-input .ensures)))  -- array-share-prefix-text
-    (λ c. settled-front (c .before .before .before .before .before .before .before .before .before .before .before .before .before .before .before .settle-input .ensures))  -- slice-aggregate-write-all-2
-    (λ c κs. search needs)  -- write-all-requires-2
-    (λ c. search needs)  -- slice-aggregate-write-all-3
-    (λ c κs. search needs)  -- write-all-requires-3
+    (λ c. settled-front (c .before .before .before .before .before .before .before .before .before .before .before .before .before .before .before .settle-input .ensures))  -- slice-aggregate-write-all
+    (λ c κs. search needs)  -- write-all-requires
+    (λ c. search needs)  -- slice-aggregate-tell-2
+    (λ c κs. search needs)  -- tell-requires-2
     (λ c. search needs)  -- returns-2
     (λ c. search needs))  -- returns-3

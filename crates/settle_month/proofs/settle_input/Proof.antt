@@ -2,7 +2,8 @@
 use mathlib.Core.Path.{refl, _∙_}
 use native.Mathlib.Omega.{arith}
 use borrow.Author.Needs.{needs}
-use Rattle.month_file.specs.Machine.{Kept, kept}
+use Rattle.file_lines.specs.State.{Kept, kept}
+use Rattle.month_file.proofs.Run.{fresh-is}
 use Rattle.settle_month.specs.Input.{unread}
 use Rattle.settle_month.proofs.Parts.{taken-valid, taken-written}
 use Rattle.settle_month.proofs.settle_input.Statement.{statement}
@@ -18,7 +19,7 @@ settle-input-spec =
     tie.close
     (tie.spec
     (λ c κs. search needs)  -- fresh-requires
-    (λ c κs. let s = c .before .before .before .before .before .before .before .before .before .before .before .before .before .before .before .before .before .before .before .before .before .before .before .before .before in (s .pre .0 .0, (c .before .before .before .before .before .before .before .before .before .before .before .before .fresh .ensures (lists s) (s .args .line .now) (s .pre .1)) .valid))  -- take-input-requires
+    (λ c κs. let s = c .before .before .before .before .before .before .before .before .before .before .before .before .before .before .before .before .before .before .before .before .before .before .before .before .before in (s .pre .0 .0, (fresh-is (c .before .before .before .before .before .before .before .before .before .before .before .before .fresh .ensures) (lists s) (s .args .line .now) (s .pre .1)) .valid))  -- take-input-requires
     (λ c. c .before .before .before .before .before .before .before .before .before .before .before .before .before .before .before .before .before .before .before .before .before .before .before .before .before .take-input .kept .1 .0)  -- same-length
     (λ c. c .before .before .before .before .before .before .before .before .before .before .before .before .before .before .before .before .before .before .before .before .before .before .before .before .before .take-input .kept .1 .1 .0)  -- same-length-2
     (λ c. c .before .before .before .before .before .before .before .before .before .before .before .before .before .before .before .before .before .before .before .before .before .before .before .before .before .take-input .kept .1 .1 .1 .0)  -- same-length-3
@@ -32,7 +33,7 @@ settle-input-spec =
     (λ c. c .before .before .before .before .before .before .before .before .before .before .before .before .before .before .before .before .before .before .before .before .before .before .before .before .before .take-input .kept .1 .1 .1 .1 .1 .1 .1 .1 .1 .1 .1 .0)  -- same-length-11
     (λ c. c .before .before .before .before .before .before .before .before .before .before .before .before .before .before .before .before .before .before .before .before .before .before .before .before .before .take-input .kept .1 .1 .1 .1 .1 .1 .1 .1 .1 .1 .1 .1 .0)  -- same-length-12
     (λ c. unread refl refl)  -- returns
-    (λ c κs. let s = c .before .before .before .before .before .before .before .before .before .before .before .before .before .before .before .before .before .before .before .before .before .before .before .before .before .before .before .before .before .before .before .before .before .before .before .before .before .before .before .before .before .before .before .before .before .before .before .before .before .before .before .before .before .before .before .before .before .before .before .before .before .before .before in let k = c .before .before .before .before .before .before .before .before .before .before .before .before .before .before .before .before .before .before .before .before .before .before .before .before .before .before .before .before .before .before .before .before .before .before .before .before .before .take-input .kept in ((omega (arith, s .pre .0 .0 .bytes, k .1 .1 .0), k .1 .1 .1 .0 ∙ s .pre .0 .0 .places, s .pre .0 .1), taken-valid (c .before .before .before .before .before .before .before .before .before .before .before .before .before .before .before .before .before .before .before .before .before .before .before .before .before .before .before .before .before .before .before .before .before .before .before .before .before .before .before .before .before .before .before .before .before .before .before .before .before .before .fresh .ensures (lists s) (s .args .line .now) (s .pre .1)) (c .before .before .before .before .before .before .before .before .before .before .before .before .before .before .before .before .before .before .before .before .before .before .before .before .before .before .before .before .before .before .before .before .before .before .before .before .before .take-input .ensures)))  -- finish-requires
+    (λ c κs. let s = c .before .before .before .before .before .before .before .before .before .before .before .before .before .before .before .before .before .before .before .before .before .before .before .before .before .before .before .before .before .before .before .before .before .before .before .before .before .before .before .before .before .before .before .before .before .before .before .before .before .before .before .before .before .before .before .before .before .before .before .before .before .before .before in let k = c .before .before .before .before .before .before .before .before .before .before .before .before .before .before .before .before .before .before .before .before .before .before .before .before .before .before .before .before .before .before .before .before .before .before .before .before .before .take-input .kept in ((omega (arith, s .pre .0 .0 .bytes, k .1 .1 .0), k .1 .1 .1 .0 ∙ s .pre .0 .0 .places, s .pre .0 .1), taken-valid (fresh-is (c .before .before .before .before .before .before .before .before .before .before .before .before .before .before .before .before .before .before .before .before .before .before .before .before .before .before .before .before .before .before .before .before .before .before .before .before .before .before .before .before .before .before .before .before .before .before .before .before .before .before .fresh .ensures) (lists s) (s .args .line .now) (s .pre .1)) (c .before .before .before .before .before .before .before .before .before .before .before .before .before .before .before .before .before .before .before .before .before .before .before .before .before .before .before .before .before .before .before .before .before .before .before .before .before .take-input .ensures)))  -- finish-requires
     (λ c. c .before .before .before .before .before .before .before .before .before .before .before .before .before .before .before .before .before .before .before .before .before .before .before .before .before .before .before .before .before .before .before .before .before .before .before .before .before .before .before .before .before .before .take-input .kept .1 .0)  -- same-length-13
     (λ c. c .before .before .before .before .before .before .before .before .before .before .before .before .before .before .before .before .before .before .before .before .before .before .before .before .before .before .before .before .before .before .before .before .before .before .before .before .before .before .before .before .before .before .take-input .kept .1 .1 .0)  -- same-length-14
     (λ c. c .before .before .before .before .finish .kept .1 .1 .0 ∙ c .before .before .before .before .before .before .before .before .before .before .before .before .before .before .before .before .before .before .before .before .before .before .before .before .before .before .before .before .before .before .before .before .before .before .before .before .before .before .before .before .before .before .take-input .kept .1 .1 .1 .0)  -- same-length-15
@@ -46,4 +47,4 @@ settle-input-spec =
     (λ c. c .before .before .before .before .before .before .before .before .before .before .before .before .before .before .before .before .before .before .before .before .before .before .before .before .before .before .before .before .before .before .before .before .before .before .before .before .before .before .before .before .before .before .take-input .kept .1 .1 .1 .1 .1 .1 .1 .1 .1 .1 .1 .0)  -- same-length-23
     (λ c. c .before .before .before .before .before .before .before .before .before .before .before .before .before .before .before .before .before .before .before .before .before .before .before .before .before .before .before .before .before .before .before .before .before .before .before .before .before .before .before .before .before .before .take-input .kept .1 .1 .1 .1 .1 .1 .1 .1 .1 .1 .1 .1 .0)  -- same-length-24
     (λ c. c .before .before .before .before .finish .kept .1 .1 .1 .1 .1 .1 .1 .1 .1 .1 .1 .0)  -- same-length-25
-    (λ c. let s = c .before .before .before .before .before .before .before .before .before .before .before .before .before .before .before .before .before .before .before .before .before .before .before .before .before .before .before .before .before .before .before .before .before .before .before .before .before .before .before .before .before .before .before .before .before .before .before .before .before .before .before .before .before .before .before .before .before .before .before .before .before .before .before .before .before .before .before .before in taken-written (c .before .before .before .before .before .before .before .before .before .before .before .before .before .before .before .before .before .before .before .before .before .before .before .before .before .before .before .before .before .before .before .before .before .before .before .before .before .before .before .before .before .before .before .before .before .before .before .before .before .before .before .before .before .before .before .fresh .ensures (lists s) (s .args .line .now) (s .pre .1)) (c .before .before .before .before .before .before .before .before .before .before .before .before .before .before .before .before .before .before .before .before .before .before .before .before .before .before .before .before .before .before .before .before .before .before .before .before .before .before .before .before .before .before .take-input .ensures) (c .before .before .before .before .finish .ensures)))  -- returns-2
+    (λ c. let s = c .before .before .before .before .before .before .before .before .before .before .before .before .before .before .before .before .before .before .before .before .before .before .before .before .before .before .before .before .before .before .before .before .before .before .before .before .before .before .before .before .before .before .before .before .before .before .before .before .before .before .before .before .before .before .before .before .before .before .before .before .before .before .before .before .before .before .before .before in taken-written (fresh-is (c .before .before .before .before .before .before .before .before .before .before .before .before .before .before .before .before .before .before .before .before .before .before .before .before .before .before .before .before .before .before .before .before .before .before .before .before .before .before .before .before .before .before .before .before .before .before .before .before .before .before .before .before .before .before .before .fresh .ensures) (lists s) (s .args .line .now) (s .pre .1)) (c .before .before .before .before .before .before .before .before .before .before .before .before .before .before .before .before .before .before .before .before .before .before .before .before .before .before .before .before .before .before .before .before .before .before .before .before .before .before .before .before .before .before .take-input .ensures) (c .before .before .before .before .finish .ensures)))  -- returns-2

@@ -2,7 +2,7 @@
 use mathlib.Core.Path.{_∙_}
 use native.Mathlib.Omega.{arith}
 use borrow.Author.Needs.{needs}
-use Rattle.month_file.specs.Machine.{kept}
+use Rattle.file_lines.specs.State.{kept}
 use Rattle.settle_month.proofs.Parts.{Taking, taking, taking-more}
 use Rattle.settle_month.proofs.take_input.Statement.{statement}
 use Rattle.settle_month.proofs.take_input.Tie as tie

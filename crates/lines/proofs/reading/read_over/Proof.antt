@@ -7,7 +7,7 @@ use borrow.Author.Tests.{not-true, not-false}
 use Rattle.lists.proofs.Questions.{asks, refused, granted}
 use Rattle.lines.specs.Reading.{readNumber, countFits}
 use Rattle.lines.proofs.Starts.{start-room}
-use Rattle.lines.proofs.Lines.{Known, known, count-low, number-28, number-29, number-30, refused-with, accepted-with}
+use Rattle.lines.proofs.Lines.{Known, known, count-low, number-28, number-29, number-30, refused-with, accepted-with, copied-front}
 use Rattle.lines.proofs.reading.read_over.Statement.{statement}
 use Rattle.lines.proofs.reading.read_over.Tie as tie
 
@@ -68,20 +68,22 @@ returns-5 c =
     refused-with (a .line .now) (a .figures .now) 30 (c .refused5 .ensures)
     (number-30 (told r) _ (fits e) (not-false _ (g .if4 .left)) (c .before .if5 .taken)) (λ z. omega arith)
 
-copy-front-requires : tie.Need-copy-front-requires
-copy-front-requires c κs =
-    let e = c .before .before .before .before .before in
+part-copy-into-end : tie.Need-part-copy-into-end
+part-copy-into-end c =
+    let e = c .before .before .before .before in
     let k = told (e .before .before .before .before) in
-    (omega (arith, k .size, count-low k 0 (fits e)), search needs)
+    omega (arith, k .size, count-low k 0 (fits e))
 
 returns-6 : tie.Need-returns-6
 returns-6 c =
-    let h = c .before .before .before .before .before in
+    let h = c .before .before .before .before .before .before in
     let g = h .before in
     let e = g .before .before in
     let r = e .before .before .before .before in
     let a = r .before .before .before .before .before .before .before .before .before .args in
-    accepted-with (a .line .now) (a .figures .now) (told r) (fits e) (not-false _ (g .if4 .left)) (h .if5 .left) (c .before .before .copy-front .ensures)
+    let k = told r in
+    accepted-with (a .line .now) (a .figures .now) k (fits e) (not-false _ (g .if4 .left)) (h .if5 .left)
+    (copied-front (a .figures .now) _ (r .read-fields .result .count) (omega (arith, k .size, count-low k 0 (fits e))) (c .before .before .copy-into .ensures))
 
 pub read-over-spec : {M : Type 1} → statement M
 read-over-spec =
@@ -104,7 +106,10 @@ read-over-spec =
     (λ c κs. search needs)  -- refused-requires-5
     (λ c. search needs)  -- same-length-3
     returns-5
-    copy-front-requires
+    (λ c. search needs)  -- sub-copy-into
+    (λ c. search needs)  -- part-copy-into-start
+    part-copy-into-end
+    (λ c κs. search needs)  -- copy-into-requires
     (λ c. search needs)  -- same-length-4
     (λ c. search needs)  -- same-length-5
     returns-6)

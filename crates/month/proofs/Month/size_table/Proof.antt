@@ -9,7 +9,7 @@ use Rattle.ledger.specs.Ledger.{Ledger}
 use Rattle.month.specs.declared.Month.{Month}
 use Rattle.month.specs.declared.Sized.{Sized}
 use Rattle.month.specs.Statement.{Sizing}
-use Rattle.month.proofs.Statable.{size-many}
+use Rattle.month.proofs.StatementAsked.{size-many}
 use Rattle.month.proofs.Month.size_table.Statement.{statement}
 use Rattle.month.proofs.Month.size_table.Tie as tie
 

@@ -3,7 +3,7 @@ use native.Mathlib.Omega.{arith}
 use borrow.Author.Needs.{needs}
 use Rattle.lists.proofs.Questions.{outcomes}
 use Rattle.month.specs.Statement.{statementCall}
-use Rattle.month.proofs.Statable.{granted, writable, written}
+use Rattle.month.proofs.StatementAsked.{granted, writable, written}
 use Rattle.month.proofs.Month.statement_columns.Statement.{statement}
 use Rattle.month.proofs.Month.statement_columns.Tie as tie
 

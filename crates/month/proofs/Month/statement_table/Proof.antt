@@ -9,7 +9,7 @@ use Rattle.records.proofs.Figures.{made-of}
 use Rattle.ledger.specs.Ledger.{Ledger}
 use Rattle.month.specs.declared.Month.{Month}
 use Rattle.month.specs.Statement.{StatementEnd, statementCall}
-use Rattle.month.proofs.Statable.{statement-many}
+use Rattle.month.proofs.StatementAsked.{statement-many}
 use Rattle.month.proofs.Month.statement_table.Statement.{statement}
 use Rattle.month.proofs.Month.statement_table.Tie as tie
 

@@ -1,6 +1,6 @@
 -- `balance::balance_number` meets its contract: each return is the first no, by the tests that led to it. Assumes nothing.
 use borrow.Author.Needs.{needs}
-use Rattle.lists.proofs.Questions.{asks}
+use Rattle.lists.proofs.Questions.{asks, granted, limits}
 use Rattle.month.specs.Questions.{balanceNumber}
 use Rattle.month.proofs.balance.balance_number.Statement.{statement}
 use Rattle.month.proofs.balance.balance_number.Tie as tie
@@ -12,9 +12,9 @@ balance-number-spec =
     (tie.spec
     (λ c κs. search needs)  -- is-blank-requires
     (λ c. search asks depth 9)
+    (λ c κs. search needs)  -- plants-in-limits-requires
     (λ c. search asks depth 9)
-    (λ c. search asks depth 9)
-    (λ c κs. search needs)  -- lengths-number-requires
+    (λ c κs. let asked = limits 1 512 _ (granted _ _ (c .before .plants-in-limits .ensures) (c .if2 .left)) in search needs)  -- lengths-number-requires
     (λ c. search asks depth 9)
     (λ c κs. search needs)  -- in-bounds-requires
     (λ c. search asks depth 9)

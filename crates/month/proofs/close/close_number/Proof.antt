@@ -1,6 +1,6 @@
 -- `close::close_number` meets its contract: each return is the first no, by the tests that led to it. Assumes nothing.
 use borrow.Author.Needs.{needs}
-use Rattle.lists.proofs.Questions.{asks}
+use Rattle.lists.proofs.Questions.{asks, granted, limits}
 use Rattle.month.specs.Questions.{closeNumber}
 use Rattle.month.proofs.close.close_number.Statement.{statement}
 use Rattle.month.proofs.close.close_number.Tie as tie
@@ -12,8 +12,8 @@ close-number-spec =
     (tie.spec
     (λ c κs. search needs)  -- is-open-requires
     (λ c. search asks depth 9)
+    (λ c κs. search needs)  -- periods-in-limits-requires
     (λ c. search asks depth 9)
-    (λ c. search asks depth 9)
-    (λ c. search needs)  -- add-if4
+    (λ c. let asked = limits 1 744 _ (granted _ _ (c .before .before .periods-in-limits .ensures) (c .before .if2 .left)) in search needs)  -- add-if3
     (λ c. search asks depth 9)
     (λ c. search asks depth 9))

@@ -4,7 +4,7 @@ use native.Mathlib.Omega.{arith}
 use Rattle.lists.proofs.Questions.{asks}
 use Rattle.hour.proofs.Table.{length-plants}
 use Rattle.month.specs.Statement.{sizingNumber}
-use Rattle.month.proofs.Statable.{due}
+use Rattle.month.proofs.StatementAsked.{due}
 use Rattle.month.proofs.stating.sizing_number.Statement.{statement}
 use Rattle.month.proofs.stating.sizing_number.Tie as tie
 

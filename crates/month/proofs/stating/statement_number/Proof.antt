@@ -3,13 +3,13 @@ use borrow.Author.Needs.{needs}
 use Rattle.lists.proofs.Questions.{asks}
 use native.Mathlib.Omega.{arith}
 use Rattle.month.specs.Statement.{statementNumber}
-use Rattle.month.proofs.Statable.{statable, short, long}
+use Rattle.month.proofs.StatementAsked.{sizing-asked, short, long}
 use Rattle.month.proofs.stating.statement_number.Statement.{statement}
 use Rattle.month.proofs.stating.statement_number.Tie as tie
 
 room-for-requires : tie.Need-room-for-requires
 room-for-requires c κs =
-    let s = statable _ _ _ _ (c .before .sizing-number .ensures) (c .if1 .left) in
+    let s = sizing-asked _ _ _ _ (c .before .sizing-number .ensures) (c .if1 .left) in
     s .due .plants
 
 returns-2 : tie.Need-returns-2

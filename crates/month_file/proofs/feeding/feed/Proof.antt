@@ -1,9 +1,12 @@
 -- `feeding::feed` meets its contract. Assumes nothing.
+use mathlib.Core.Path.{refl}
 use Prim.Native.Nat.{_-_}
 use native.Mathlib.Omega.{arith}
 use lib.ListN.{length}
-use Rattle.month_file.specs.Machine.{kept}
-use Rattle.month_file.proofs.Parts.{Feeding, feeding, feeding-more, all-fed}
+use Rattle.file_lines.specs.State.{kept}
+use Rattle.file_lines.proofs.Opened.{front-count}
+use Rattle.file_lines.proofs.Taken.{few-lines}
+use Rattle.month_file.proofs.Parts.{Feeding, feeding, feeding-on, feeding-line, all-fed}
 use Rattle.month_file.proofs.feeding.feed.Statement.{statement}
 use Rattle.month_file.proofs.feeding.feed.Tie as tie
 
@@ -20,10 +23,15 @@ feed-spec =
     (tie.spec
     Inv-loop  -- Inv-loop
     μ-loop  -- μ-loop
-    (λ c. let s = c .before .before .before .before .before .before .before .before .before .before .before in feeding (s .pre .0) (s .pre .1))  -- loop-holds
-    (λ c κs. let i = c .before .before .before .before .before .before .before .before .before .before .before .before .loop .inv in ((c .before .before .before .before .before .before .before .before .before .before .before .loop-test .taken, i .room), i .valid))  -- next-line-requires
-    (λ c. omega (arith, c .before .before .before .before .before .before .before .before .before .before .before .before .before .before .before .before .before .before .before .before .before .before .before .before .before .before .before .before .before .before .before .before .before .before .loop-test .taken, c .before .before .before .before .before .before .before .before .before .before .before .before .before .before .before .before .before .before .before .before .before .before .next-line .ensures .low, c .before .before .before .before .before .before .before .before .before .before .before .before .before .before .before .before .before .before .before .before .before .before .next-line .ensures .high))  -- loop-less
-    (λ c. let w = c .before .before .before .before .before .before .before .before .before .before .before .before .before .before .before .before .before .before .before .before .before .before .next-line in feeding-more (c .before .before .before .before .before .before .before .before .before .before .before .before .before .before .before .before .before .before .before .before .before .before .before .before .before .before .before .before .before .before .before .before .before .before .before .loop .inv) (w .ensures) (record { bytes = w .kept .1 .1 .1 .0; places = w .kept .1 .1 .1 .1 .0; submarket = w .kept .1 .1 .1 .1 .1 .0; number = w .kept .1 .1 .1 .1 .1 .1 .0; guarantee = w .kept .1 .1 .1 .1 .1 .1 .1 .0; loss = w .kept .1 .1 .1 .1 .1 .1 .1 .1 .0; availability = w .kept .1 .1 .1 .1 .1 .1 .1 .1 .1 .0; profile = w .kept .1 .1 .1 .1 .1 .1 .1 .1 .1 .1 .0; fours = w .kept .1 .1 .1 .1 .1 .1 .1 .1 .1 .1 .1 .0; allotted = w .kept .1 .1 .1 .1 .1 .1 .1 .1 .1 .1 .1 .1 .0; accounts = w .kept .1 .1 .1 .1 .1 .1 .1 .1 .1 .1 .1 .1 .1 .0 }))  -- loop-again
+    (λ c. feeding (c .before .before .before .before .before .before .before .before .before .before .before .pre .0) (c .before .before .before .before .before .before .before .before .before .before .before .pre .1))  -- loop-holds
+    (λ c κs. let i = c .before .before .loop .inv in (c .before .loop-test .taken, i .room .bytes, i .valid .short, few-lines _ _ (i .valid)))  -- next-line-requires
+    (λ c. let i = c .before .before .before .before .before .before .before .loop .inv in omega (arith, c .before .before .before .before .next-line .ensures _ (i .valid) .valid .short, c .before .before .before .before .next-line .kept .1 .1 .1 .0, i .room .bytes))  -- slice-reshare-prefix-take-line
+    (λ c. let i = c .before .before .before .before .before .before .before .before .loop .inv in front-count _ _ (omega (arith, c .before .before .before .before .before .next-line .ensures _ (i .valid) .valid .short, c .before .before .before .before .before .next-line .kept .1 .1 .1 .0, i .room .bytes)))  -- slice-aggregate-take-line
+    (λ c κs. let i = c .before .before .before .before .before .before .before .before .before .before .before .before .before .before .before .before .before .before .loop .inv in let s = c .before .before .before .before .before .before .before .before .before .before .before .before .before .before .before .next-line .ensures _ (i .valid) in ((s .due (c .before .before .before .before .before .before .before .before .before .before .before .if1 .taken), i .room .places, i .room .fours), s .valid))  -- take-line-requires
+    (λ c. let s = c .before .before .before .before .before .before .before .before .before .before .before .before .before .before .before .before .before .before .before .before .before .before .before .before .before .before .before .before .before .before .before .before .before .before .before .next-line .ensures _ (c .before .before .before .before .before .before .before .before .before .before .before .before .before .before .before .before .before .before .before .before .before .before .before .before .before .before .before .before .before .before .before .before .before .before .before .before .before .before .loop .inv .valid) in omega (arith, c .before .before .before .before .before .before .before .before .before .before .before .before .before .before .before .before .before .before .before .before .before .before .before .before .before .before .before .before .before .before .before .before .before .before .before .before .before .loop-test .taken, s .low, s .high))  -- loop-less
+    (λ c. let w = c .before .before .before .before .before .before .before .before .before .before .before .before .before .before .before .before .before .before .before .take-line in feeding-line (c .before .before .before .before .before .before .before .before .before .before .before .before .before .before .before .before .before .before .before .before .before .before .before .before .before .before .before .before .before .before .before .before .before .before .before .before .before .before .loop .inv) (c .before .before .before .before .before .before .before .before .before .before .before .before .before .before .before .before .before .before .before .before .before .before .before .before .before .before .before .before .before .before .before .before .before .before .before .next-line .ensures _ (c .before .before .before .before .before .before .before .before .before .before .before .before .before .before .before .before .before .before .before .before .before .before .before .before .before .before .before .before .before .before .before .before .before .before .before .before .before .before .loop .inv .valid)) (c .before .before .before .before .before .before .before .before .before .before .before .before .before .before .before .before .before .before .before .before .before .before .before .before .before .before .before .before .before .before .before .if1 .taken) (c .before .before .before .before .before .before .before .before .before .before .before .before .before .before .before .before .before .before .before .before .before .before .before .before .before .before .before .before .before .before .before .before .before .before .before .next-line .kept .1 .1 .1 .0) (w .ensures) (record { bytes = refl; places = w .kept .1 .1 .0; submarket = w .kept .1 .1 .1 .0; number = w .kept .1 .1 .1 .1 .0; guarantee = w .kept .1 .1 .1 .1 .1 .0; loss = w .kept .1 .1 .1 .1 .1 .1 .0; availability = w .kept .1 .1 .1 .1 .1 .1 .1 .0; profile = w .kept .1 .1 .1 .1 .1 .1 .1 .1 .0; fours = w .kept .1 .1 .1 .1 .1 .1 .1 .1 .1 .0; allotted = w .kept .1 .1 .1 .1 .1 .1 .1 .1 .1 .1 .0; accounts = w .kept .1 .1 .1 .1 .1 .1 .1 .1 .1 .1 .1 .0 }))  -- loop-again
+    (λ c. let s = c .before .before .before .before .next-line .ensures _ (c .before .before .before .before .before .before .before .loop .inv .valid) in omega (arith, c .before .before .before .before .before .before .loop-test .taken, s .low, s .high))  -- loop-less-2
+    (λ c. feeding-on (c .before .before .before .before .before .before .before .loop .inv) (c .before .before .before .before .next-line .ensures _ (c .before .before .before .before .before .before .before .loop .inv .valid)) (c .if1 .left) (c .before .before .before .before .next-line .kept .1 .1 .1 .0))  -- loop-again-2
     (λ c. c .before .loop .inv .alike .bytes)  -- same-length
     (λ c. c .before .loop .inv .alike .places)  -- same-length-2
     (λ c. c .before .loop .inv .alike .submarket)  -- same-length-3

@@ -1,8 +1,8 @@
 -- `finishing::finish` meets its contract. Assumes nothing.
 use native.Mathlib.Omega.{arith}
 use borrow.Author.Needs.{needs}
-use Rattle.month_file.specs.Machine.{Kept, kept}
-use Rattle.month_file.proofs.Taken.{few-lines}
+use Rattle.file_lines.specs.State.{Kept, kept}
+use Rattle.file_lines.proofs.Taken.{few-lines}
 use Rattle.month_file.proofs.Ends.{finishes-refused, finishes}
 use Rattle.month_file.proofs.finishing.finish.Statement.{statement}
 use Rattle.month_file.proofs.finishing.finish.Tie as tie

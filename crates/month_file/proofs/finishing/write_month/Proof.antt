@@ -1,8 +1,8 @@
 -- `finishing::write_month` meets its contract. Assumes nothing.
 use native.Mathlib.Omega.{arith}
 use borrow.Author.Needs.{needs}
-use Rattle.month_file.specs.Machine.{Kept, kept, ledgerOf, Settling}
-use Rattle.month_file.proofs.Opened.{front-count}
+use Rattle.file_lines.specs.State.{Kept, kept, ledgerOf, Settling}
+use Rattle.file_lines.proofs.Opened.{front-count}
 use Rattle.month_file.proofs.Ends.{closing-refused, some-due, statable, closing-stated}
 use Rattle.month_file.proofs.finishing.write_month.Statement.{statement}
 use Rattle.month_file.proofs.finishing.write_month.Tie as tie

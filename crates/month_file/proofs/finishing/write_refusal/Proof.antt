@@ -4,9 +4,9 @@ use mathlib.Core.List.{List, [], _∷_, _++_}
 use Prim.Native.Nat.{ℕ}
 use native.Mathlib.Omega.{arith}
 use borrow.Author.Needs.{needs}
-use Rattle.lines.specs.Figures.{figure, figureLength}
+use Rattle.figures.specs.Figures.{figure, figureLength}
 use Rattle.statement.proofs.Parts.{Left, left-room, left-more, left-fits, left-last, fills}
-use Rattle.month_file.specs.File.{refusal}
+use Rattle.file_lines.specs.File.{refusal}
 use Rattle.month_file.proofs.Ends.{refusal-left}
 use Rattle.month_file.proofs.finishing.write_refusal.Statement.{statement}
 use Rattle.month_file.proofs.finishing.write_refusal.Tie as tie

@@ -1,6 +1,4 @@
--- `files::iolwarch_file_finish` meets its contract. Assumes nothing.
-use borrow.Author.Needs.{needs}
-use Rattle.recorder.proofs.KeptFiles.{finishes}
+-- `files::iolwarch_file_finish` meets its contract: it hands on. Assumes nothing.
 use Rattle.recorder.proofs.files.iolwarch_file_finish.Statement.{statement}
 use Rattle.recorder.proofs.files.iolwarch_file_finish.Tie as tie
 
@@ -8,8 +6,7 @@ pub iolwarch-file-finish-spec : {M : Type 1} → statement M
 iolwarch-file-finish-spec =
     tie.close
     (tie.spec
-    (λ c κs. search needs)  -- file-of-requires
-    (λ c κs. search needs)  -- finish-any-requires
-    (λ c. search needs)  -- same-length
-    (λ c. search needs)  -- same-length-2
-    (λ c. finishes _ _ _ (c .before .before .before .before .before .before .before .file-of .ensures) (c .before .before .before .before .finish-any .ensures)))  -- returns
+    (λ c κs. tt)  -- finish-kept-requires
+    (λ c. c .before .before .before .before .finish-kept .kept .1 .1 .0)  -- same-length
+    (λ c. c .before .before .before .before .finish-kept .kept .1 .1 .1 .1 .1 .1 .1 .1 .1 .1 .1 .0)  -- same-length-2
+    (λ c. c .before .before .before .before .finish-kept .ensures))  -- returns

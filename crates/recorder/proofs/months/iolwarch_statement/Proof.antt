@@ -40,23 +40,23 @@ use denote.Exit.{yes}
 use denote.Builtin.{u64, usize, i64, u8}
 use lib.IntN.{ℤ}
 use Rattle.hour.specs.declared.Plant.{Plant}
-use Rattle.recorder.specs.declared.months.KeptMonth.{KeptMonth}
-use Rattle.recorder.specs.declared.months.KeptStated.{KeptStated}
-use Rattle.recorder.specs.Months.{StatementKeptEnd, statementKept}
+use Rattle.kept_month.specs.declared.KeptMonth.{KeptMonth}
+use Rattle.kept_month.specs.declared.KeptStated.{KeptStated}
+use Rattle.kept_month.specs.Months.{StatementKeptEnd, statementKept}
 use Rattle.records.specs.Records.{Held}
 use Rattle.hour.proofs.Plant as Plant-T
-use Rattle.recorder.proofs.months.KeptMonth as KeptMonth-T
-use Rattle.recorder.proofs.months.KeptMonth.Laws as KeptMonth-L
-use Rattle.recorder.proofs.months.KeptStated as KeptStated-T
-use Rattle.recorder.proofs.months.KeptStated.Laws as KeptStated-L
+use Rattle.kept_month.proofs.KeptMonth as KeptMonth-T
+use Rattle.kept_month.proofs.KeptMonth.Laws as KeptMonth-L
+use Rattle.kept_month.proofs.KeptStated as KeptStated-T
+use Rattle.kept_month.proofs.KeptStated.Laws as KeptStated-L
 use Rattle.records.proofs.columns as c
 use Rattle.records.proofs.columns.Symbol as c-def
 use Rattle.records.proofs.columns.Symbol.{name as #c}
 use Rattle.records.proofs.columns.Met as c-thm
-use Rattle.recorder.proofs.months.statement_kept as g
-use Rattle.recorder.proofs.months.statement_kept.Symbol as g-def
-use Rattle.recorder.proofs.months.statement_kept.Symbol.{name as #g}
-use Rattle.recorder.proofs.months.statement_kept.Met as g-thm
+use Rattle.kept_month.proofs.statement_kept as g
+use Rattle.kept_month.proofs.statement_kept.Symbol as g-def
+use Rattle.kept_month.proofs.statement_kept.Symbol.{name as #g}
+use Rattle.kept_month.proofs.statement_kept.Met as g-thm
 use Rattle.recorder.proofs.months.iolwarch_statement.Key.{name as #f}
 use Rattle.recorder.proofs.months.iolwarch_statement as f
 use Rattle.recorder.proofs.months.iolwarch_statement.Statement as stated
@@ -216,4 +216,4 @@ iolwarch-statement-spec 𝓤 H 𝓜 𝓖 𝓡 =
     (tables 𝓤 H 𝓜 𝓡 code.env .C) (tables 𝓤 H 𝓜 𝓡 code.env .Λ) #f code.function (code.unfolded 𝓤 H 𝓜 𝓡)
     (iolwarch-statement-meets 𝓤 H (𝓖 .A) (givenOf 𝓤 H 𝓜 𝓖) (𝓜 .mem) (𝓡 .run) (tablesOf 𝓤 H 𝓜 (tables 𝓤 H 𝓜 𝓡 code.env))
     (cited 𝓤 H (Columns 𝓤 H (𝓖 .A) (𝓜 .mem) (𝓡 .run)) 𝓜 𝓡 code.env #c c-def.routine code.calls-records·columns (c-thm.met 𝓤 H 𝓜 𝓖 𝓡))
-    (cited 𝓤 H (Core 𝓤 H (𝓖 .A) (𝓜 .mem) (𝓡 .run)) 𝓜 𝓡 code.env #g g-def.routine code.calls-recorder·months·statement-kept (g-thm.met 𝓤 H 𝓜 𝓖 𝓡)))
+    (cited 𝓤 H (Core 𝓤 H (𝓖 .A) (𝓜 .mem) (𝓡 .run)) 𝓜 𝓡 code.env #g g-def.routine code.calls-kept-month·statement-kept (g-thm.met 𝓤 H 𝓜 𝓖 𝓡)))

@@ -3,7 +3,7 @@ use Prim.Native.Nat.{_-_}
 use mathlib.Core.List.{_∷_}
 use borrow.Author.Needs.{needs}
 use lib.ListN.{length, drop, getD}
-use Rattle.lines.specs.Figures.{figure, figureLength}
+use Rattle.figures.specs.Figures.{figure, figureLength}
 use Rattle.statement.specs.Writing.{fieldsText}
 use Rattle.statement.proofs.Text.{fields-more, fields-none}
 use Rattle.statement.proofs.Parts.{Left, left-all, left-room, left-more, left-none}

@@ -4,7 +4,7 @@ use mathlib.Core.List.{List, [], _∷_, _++_}
 use Prim.Native.Nat.{ℕ}
 use native.Mathlib.Omega.{arith}
 use borrow.Author.Needs.{needs}
-use Rattle.lines.specs.Figures.{figure, figureLength}
+use Rattle.figures.specs.Figures.{figure, figureLength}
 use Rattle.statement.specs.Writing.{fieldsText, leading}
 use Rattle.statement.proofs.Parts.{Left, left-all, left-room, left-more, left-fits, left-last}
 use Rattle.statement.proofs.writing.write_leading.Statement.{statement}

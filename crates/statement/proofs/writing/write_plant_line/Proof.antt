@@ -8,7 +8,7 @@ use lib.IntN.{ℤ}
 use mir.Syntax.{w64}
 use mir.Val.{toZ, ofZ}
 use mir.Facts.{toZ-ofZ}
-use Rattle.lines.specs.Figures.{signedFigure, signedFigureLength}
+use Rattle.figures.specs.Figures.{signedFigure, signedFigureLength}
 use Rattle.statement.specs.Writing.{leading, shown}
 use Rattle.statement.specs.Statement.{plantLine}
 use Rattle.statement.proofs.Text.{plant-line-is}

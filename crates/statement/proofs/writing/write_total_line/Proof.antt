@@ -5,7 +5,7 @@ use Prim.Native.Nat.{ℕ}
 use native.Mathlib.Omega.{arith}
 use borrow.Author.Needs.{needs}
 use Rattle.lists.specs.Lists.{sum}
-use Rattle.lines.specs.Figures.{figure, figureLength}
+use Rattle.figures.specs.Figures.{figure, figureLength}
 use Rattle.statement.specs.Writing.{leading}
 use Rattle.statement.specs.Statement.{totalLine}
 use Rattle.statement.proofs.Text.{total-line-is}

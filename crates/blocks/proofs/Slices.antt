@@ -1,0 +1,226 @@
+-- Rows whose blocks start at given rows: what sharing, sums and submarkets are on the rows of one block. Assumes nothing.
+use mathlib.Core.Path.{_≡_, refl, sym, ap, ap₂, _∙_}
+use mathlib.Core.List.{List, [], _∷_, _++_}
+use Prim.Native.Nat.{ℕ, zero, suc, _+_, _-_, _≤_, _<_}
+use native.Mathlib.Omega.{arith}
+use lib.ListN.{length, getD, take, drop, replicate, length-append, length-take, length-drop, length-replicate, getD-replicate}
+use lib.Seq.{take-all, take-length, take-append-seam, drop-append-seam, drop-append-add, getD-take, getD-drop}
+use Rattle.lists.specs.Lists.{sum}
+use Rattle.lists.specs.Columns.{totals}
+use Rattle.lists.proofs.Columns.{_!_}
+use Rattle.sharing.specs.Laws.{Lawful}
+use Rattle.sharing.specs.Sharing.{Rule}
+use Rattle.blocks.specs.Portion.{portion}
+use Rattle.blocks.specs.Blocks.{blockRows, standingAt, Rising}
+use Rattle.blocks.proofs.Blocks.{Blocks, cut₁, cut₂, cut₃, cut₄, totals-rows, portion-rows}
+
+-- the rows of block s, counted from 0
+abbrev pub block : List ℕ → List ℕ → ℕ → List ℕ
+block starts l s = take (getD starts (s + 1) 0 - getD starts s 0) (drop (getD starts s 0) l)
+
+-- figures of one value, and of two lists one behind the other
+same-most : (n t : ℕ) → t ≤ 4 → (i : ℕ) → replicate n t ! i ≤ 4
+same-most zero t h i = omega arith
+same-most (suc n) t h zero = h
+same-most (suc n) t h (suc i) = same-most n t h i
+
+same-least : (n t : ℕ) → 1 ≤ t → (i : ℕ) → i < length (replicate n t) → 1 ≤ replicate n t ! i
+same-least zero t h i l = absurd (omega arith)
+same-least (suc n) t h zero l = h
+same-least (suc n) t h (suc i) l = same-least n t h i (omega arith)
+
+at-most : (x y : List ℕ) → ((i : ℕ) → x ! i ≤ 4) → ((i : ℕ) → y ! i ≤ 4) → (i : ℕ) → (x ++ y) ! i ≤ 4
+at-most [] y f h i = h i
+at-most (t ∷ x) y f h zero = f 0
+at-most (t ∷ x) y f h (suc i) = at-most x y (λ i. f (suc i)) h i
+
+at-least : (x y : List ℕ) → ((i : ℕ) → i < length x → 1 ≤ x ! i) → ((i : ℕ) → i < length y → 1 ≤ y ! i)
+    → (i : ℕ) → i < length (x ++ y) → 1 ≤ (x ++ y) ! i
+at-least [] y f h i l = h i l
+at-least (t ∷ x) y f h zero l = f 0 (omega arith)
+at-least (t ∷ x) y f h (suc i) l = at-least x y (λ i k. f (suc i) (omega arith)) h i (omega arith)
+
+module _ (starts : List ℕ) (n : ℕ) (up : Rising starts n) where
+  b : ℕ
+  b = getD starts 1 0
+
+  c : ℕ
+  c = getD starts 2 0
+
+  d : ℕ
+  d = getD starts 3 0
+
+  -- the starts, one behind the other
+  record Starts : Type 0 where
+    at0 : getD starts 0 0 ≡ 0
+    b≤c : b ≤ c
+    c≤d : c ≤ d
+    d≤n : d ≤ n
+    at4 : getD starts 4 0 ≡ n
+
+  know : Starts
+  unfolding b c d
+  know =
+      let p = up .next 1 (omega arith) in let q = up .next 2 (omega arith) in let r = up .next 3 (omega arith) in let l = up .last in
+      record { at0 = up .first; b≤c = omega arith; c≤d = omega arith; d≤n = omega arith; at4 = up .last }
+
+  in-blocks : Blocks (standingAt starts)
+  unfolding standingAt
+  in-blocks = record { rows₁ = blockRows starts 1; rows₂ = blockRows starts 2; rows₃ = blockRows starts 3; rows₄ = blockRows starts 4; are = refl }
+
+  pub standing-length : length (standingAt starts) ≡ n
+  unfolding standingAt b c d
+  standing-length = let k = know in simp (length-append, length-replicate) (omega arith)
+
+  -- the submarkets are 1 to 4
+  pub standing-le : (i : ℕ) → standingAt starts ! i ≤ 4
+  unfolding standingAt
+  standing-le = at-most (rows 1) (rows 2 ++ (rows 3 ++ rows 4)) (under 1 (omega arith)) (at-most (rows 2) (rows 3 ++ rows 4) (under 2 (omega arith)) (at-most (rows 3) (rows 4) (under 3 (omega arith)) (under 4 (omega arith))))
+    where
+      rows : ℕ → List ℕ
+      rows s = replicate (blockRows starts s) s
+
+      under : (s : ℕ) → s ≤ 4 → (i : ℕ) → rows s ! i ≤ 4
+      under s h = same-most (blockRows starts s) s h
+
+  pub standing-ge : (i : ℕ) → i < n → 1 ≤ standingAt starts ! i
+  unfolding standingAt
+  standing-ge i h = all i (let a = standing-length in omega arith)
+    where
+      rows : ℕ → List ℕ
+      rows s = replicate (blockRows starts s) s
+
+      over : (s : ℕ) → 1 ≤ s → (i : ℕ) → i < length (rows s) → 1 ≤ rows s ! i
+      over s h = same-least (blockRows starts s) s h
+
+      all : (i : ℕ) → i < length (rows 1 ++ (rows 2 ++ (rows 3 ++ rows 4))) → 1 ≤ (rows 1 ++ (rows 2 ++ (rows 3 ++ rows 4))) ! i
+      all = at-least (rows 1) (rows 2 ++ (rows 3 ++ rows 4)) (over 1 (omega arith)) (at-least (rows 2) (rows 3 ++ rows 4) (over 2 (omega arith)) (at-least (rows 3) (rows 4) (over 3 (omega arith)) (over 4 (omega arith))))
+
+  pub end-below : (s : ℕ) → s < 4 → getD starts (s + 1) 0 ≤ n
+  unfolding b c d
+  end-below zero h = let k = know in omega arith
+  end-below (suc zero) h = let k = know in omega arith
+  end-below (suc (suc zero)) h = let k = know in omega arith
+  end-below (suc (suc (suc zero))) h = let k = know in omega arith
+  end-below (suc (suc (suc (suc m)))) h = absurd (omega arith)
+
+  -- four lists one behind the other, as long as the blocks: the blocks are the lists
+  module _ (x₁ x₂ x₃ x₄ : List ℕ) (l₁ : length x₁ ≡ blockRows starts 1) (l₂ : length x₂ ≡ blockRows starts 2)
+      (l₃ : length x₃ ≡ blockRows starts 3) (l₄ : length x₄ ≡ blockRows starts 4) where
+    pieces : (s : ℕ) → s < 4 → block starts (x₁ ++ (x₂ ++ (x₃ ++ x₄))) s ≡ getD (x₁ ∷ x₂ ∷ x₃ ∷ x₄ ∷ []) s []
+    unfolding b c d
+    pieces zero h = ap₂ (λ (m k : ℕ). take m (drop k (x₁ ++ (x₂ ++ (x₃ ++ x₄))))) (sym l₁) (know .at0) ∙ take-append-seam x₁ (x₂ ++ (x₃ ++ x₄))
+    pieces (suc zero) h =
+        ap₂ (λ (m k : ℕ). take m (drop k (x₁ ++ (x₂ ++ (x₃ ++ x₄))))) (sym l₂) e
+        ∙ ap (take (length x₂)) (drop-append-seam x₁ (x₂ ++ (x₃ ++ x₄))) ∙ take-append-seam x₂ (x₃ ++ x₄)
+      where
+        e : getD starts 1 0 ≡ length x₁
+        e = let k = know in omega arith
+    pieces (suc (suc zero)) h =
+        ap₂ (λ (m k : ℕ). take m (drop k (x₁ ++ (x₂ ++ (x₃ ++ x₄))))) (sym l₃) e
+        ∙ ap (take (length x₃)) (drop-append-add x₁ (x₂ ++ (x₃ ++ x₄)) (length x₂) ∙ drop-append-seam x₂ (x₃ ++ x₄)) ∙ take-append-seam x₃ x₄
+      where
+        e : getD starts 2 0 ≡ length x₁ + length x₂
+        e = let k = know in omega arith
+    pieces (suc (suc (suc zero))) h =
+        ap₂ (λ (m k : ℕ). take m (drop k (x₁ ++ (x₂ ++ (x₃ ++ x₄))))) (sym l₄) e
+        ∙ ap (take (length x₄))
+        (drop-append-add x₁ (x₂ ++ (x₃ ++ x₄)) (length x₂ + length x₃) ∙ drop-append-add x₂ (x₃ ++ x₄) (length x₃) ∙ drop-append-seam x₃ x₄)
+        ∙ take-length x₄
+      where
+        e : getD starts 3 0 ≡ length x₁ + (length x₂ + length x₃)
+        e = let k = know in omega arith
+    pieces (suc (suc (suc (suc m)))) h = absurd (omega arith)
+
+  -- a figure of a block's row
+  pub in-block : (l : List ℕ) (s i : ℕ) → getD starts s 0 ≤ i → i < getD starts (s + 1) 0 → l ! i ≡ block starts l s ! (i - getD starts s 0)
+  in-block l s i low high =
+      let a : ℕ = getD starts s 0 in
+      let m : ℕ = getD starts (s + 1) 0 - a in
+      let e : i ≡ a + (i - a) = omega arith in
+      ap (λ (k : ℕ). l ! k) e ∙ sym (getD-take m (drop a l) (i - a) 0 (omega arith) ∙ getD-drop a l (i - a) 0)
+
+  -- the submarket of a block's row
+  pub row-in : (s i : ℕ) → s < 4 → getD starts s 0 ≤ i → i < getD starts (s + 1) 0 → standingAt starts ! i ≡ s + 1
+  unfolding standingAt
+  row-in s i h low high =
+      in-block (standingAt starts) s i low high ∙ ap (λ l. l ! (i - getD starts s 0)) (are s h)
+      ∙ same s h (i - getD starts s 0) (omega arith)
+    where
+      rows : ℕ → List ℕ
+      rows k = replicate (blockRows starts k) k
+
+      are : (s : ℕ) → s < 4 → block starts (standingAt starts) s ≡ getD (rows 1 ∷ rows 2 ∷ rows 3 ∷ rows 4 ∷ []) s []
+      are = pieces (rows 1) (rows 2) (rows 3) (rows 4) (length-replicate _ 1) (length-replicate _ 2) (length-replicate _ 3) (length-replicate _ 4)
+
+      same : (s : ℕ) → s < 4 → (i : ℕ) → i < getD starts (s + 1) 0 - getD starts s 0 → getD (rows 1 ∷ rows 2 ∷ rows 3 ∷ rows 4 ∷ []) s [] ! i ≡ s + 1
+      same zero h i u = getD-replicate (blockRows starts 1) i 1 0 u
+      same (suc zero) h i u = getD-replicate (blockRows starts 2) i 2 0 u
+      same (suc (suc zero)) h i u = getD-replicate (blockRows starts 3) i 3 0 u
+      same (suc (suc (suc zero))) h i u = getD-replicate (blockRows starts 4) i 4 0 u
+      same (suc (suc (suc (suc m)))) h i u = absurd (omega arith)
+
+  module _ (ws : List ℕ) (sized : length ws ≡ n) where
+    same : length ws ≡ length (standingAt starts)
+    same = sized ∙ sym standing-length
+
+    -- the cuts at the blocks are the blocks
+    cut : (s : ℕ) → s < 4 → getD (cut₁ in-blocks ws same ∷ cut₂ in-blocks ws same ∷ cut₃ in-blocks ws same ∷ cut₄ in-blocks ws same ∷ []) s [] ≡ block starts ws s
+    unfolding b c d in-blocks cut₁ cut₂ cut₃ cut₄
+    cut zero h = ap (λ (k : ℕ). take (blockRows starts 1) (drop k ws)) (sym (know .at0))
+    cut (suc zero) h = ap (λ (k : ℕ). take (blockRows starts 2) (drop k ws)) e
+      where
+        e : blockRows starts 1 ≡ b
+        e = let k = know in omega arith
+    cut (suc (suc zero)) h = ap (λ (k : ℕ). take (blockRows starts 3) (drop k ws)) e
+      where
+        e : blockRows starts 1 + blockRows starts 2 ≡ c
+        e = let k = know in omega arith
+    cut (suc (suc (suc zero))) h =
+        ap (λ (k : ℕ). drop k ws) e ∙ sym (take-all (blockRows starts 4) (drop d ws) (let k = know in let a = length-drop d ws in omega arith))
+      where
+        e : blockRows starts 1 + blockRows starts 2 + blockRows starts 3 ≡ d
+        e = let k = know in omega arith
+    cut (suc (suc (suc (suc m)))) h = absurd (omega arith)
+
+    block-length : (s : ℕ) → s < 4 → length (block starts ws s) ≡ getD starts (s + 1) 0 - getD starts s 0
+    block-length s h =
+        let a = length-take (getD starts (s + 1) 0 - getD starts s 0) (drop (getD starts s 0) ws) in
+        let e = length-drop (getD starts s 0) ws in
+        let k = end-below s h in omega arith
+
+    -- the sum of a submarket is that of its block, and its amount is shared over its block
+    pub total-block : (s : ℕ) → s < 4 → totals (standingAt starts) ws ! s ≡ sum (block starts ws s)
+    total-block s h = ap (λ l. l ! s) (totals-rows in-blocks ws same) ∙ go s h ∙ ap sum (cut s h)
+      where
+        go : (s : ℕ) → s < 4
+            → (sum (cut₁ in-blocks ws same) ∷ sum (cut₂ in-blocks ws same) ∷ sum (cut₃ in-blocks ws same) ∷ sum (cut₄ in-blocks ws same) ∷ []) ! s
+            ≡ sum (getD (cut₁ in-blocks ws same ∷ cut₂ in-blocks ws same ∷ cut₃ in-blocks ws same ∷ cut₄ in-blocks ws same ∷ []) s [])
+        go zero h = refl
+        go (suc zero) h = refl
+        go (suc (suc zero)) h = refl
+        go (suc (suc (suc zero))) h = refl
+        go (suc (suc (suc (suc m)))) h = absurd (omega arith)
+
+    module _ {rule : Rule} (L : Lawful rule) (amounts : List ℕ) (fits : (s : ℕ) → amounts ! s ≤ totals (standingAt starts) ws ! s) where
+      pub portion-block : (s : ℕ) → s < 4 → block starts (portion rule (standingAt starts) amounts ws) s ≡ rule (amounts ! s) (block starts ws s)
+      portion-block s h =
+          ap (λ l. block starts l s) (portion-rows in-blocks ws same L amounts (λ s _ _. fits (s - 1)))
+          ∙ pieces (x 0) (x 1) (x 2) (x 3) (long 0 (omega arith)) (long 1 (omega arith)) (long 2 (omega arith)) (long 3 (omega arith)) s h
+          ∙ go s h ∙ ap (rule (amounts ! s)) (cut s h)
+        where
+          ws′ : ℕ → List ℕ
+          ws′ s = getD (cut₁ in-blocks ws same ∷ cut₂ in-blocks ws same ∷ cut₃ in-blocks ws same ∷ cut₄ in-blocks ws same ∷ []) s []
+
+          x : ℕ → List ℕ
+          x s = rule (amounts ! s) (ws′ s)
+
+          long : (s : ℕ) → s < 4 → length (x s) ≡ getD starts (s + 1) 0 - getD starts s 0
+          long s h = L .sized (amounts ! s) (ws′ s) ∙ ap length (cut s h) ∙ block-length s h
+
+          go : (s : ℕ) → s < 4 → getD (x 0 ∷ x 1 ∷ x 2 ∷ x 3 ∷ []) s [] ≡ x s
+          go zero h = refl
+          go (suc zero) h = refl
+          go (suc (suc zero)) h = refl
+          go (suc (suc (suc zero))) h = refl
+          go (suc (suc (suc (suc m)))) h = absurd (omega arith)

@@ -1,0 +1,3 @@
+-- Rows by submarket, their blocks, and sharing over them.
+pub mod Portion
+pub mod Blocks

@@ -1,0 +1,6 @@
+-- Laws of figures.
+pub mod Decimal
+pub mod Signs
+pub mod Written
+pub mod Digits
+pub mod Promised

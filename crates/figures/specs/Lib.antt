@@ -1,0 +1,3 @@
+-- Figures as text: written and read.
+pub mod Figures
+pub mod Laws

@@ -1,0 +1,196 @@
+-- P and H lines that are taken. Assumes nothing.
+use mathlib.Core.Path.{_≡_, refl, sym, ap, ap₂, _∙_}
+use mathlib.Core.Bool.{cond}
+use mathlib.Core.List.{List, [], _∷_, _++_}
+use Prim.Native.Nat.{ℕ, _+_, _≤_, _<_}
+use native.Mathlib.Numerals.{add-one}
+use native.Mathlib.Omega.{arith}
+use borrow.Author.Tests.{lt-ltb, le-ltb, eq-eqb, ne-eqb}
+use lib.Dec.{eqb}
+use lib.ListN.{length, take, set, getD, length-set, length-append}
+use lib.Seq.{take-suc-set, length-take-le}
+use Rattle.hour.specs.declared.Plant.{Plant}
+use Rattle.file_lines.specs.declared.MonthFile.{MonthFile}
+use Rattle.file_lines.specs.File.{Progress, Sizes, gathers, plantOf, opened, taken}
+use Rattle.file_lines.specs.State.{Kept, kept, rowsOf, progressOf, Lent, Gathering, Valid, Moved, RowStored, atStage, Openable, openedOf}
+use Rattle.file_lines.proofs.Rows.{rows-more, length-rows, equal-rows}
+use Rattle.file_lines.proofs.Moves.{gathered, moved-as}
+
+abbrev pub sizesOf : MonthFile → Sizes
+sizesOf f = record { periods = f .periods; plants = f .plants; tariff = f .tariff }
+
+pub gathers-is : (f : MonthFile) (k : Kept) → f .stage ≡ 1 → progressOf f k ≡ gathers (sizesOf f) (rowsOf (f .rows) k) (take (f .figures) (k .profile))
+unfolding progressOf
+gathers-is f k e = rw e
+
+-- the lists with other columns; with another profile
+abbrev pub withColumns : Kept → List ℕ → List ℕ → List ℕ → List ℕ → List ℕ → Kept
+withColumns k ss ns gs ls vs = kept ss ns gs ls vs (k .profile) (k .allotted) (k .accounts)
+
+abbrev pub withProfile : Kept → List ℕ → Kept
+withProfile k profile = kept (k .submarket) (k .number) (k .guarantee) (k .loss) (k .availability) profile (k .allotted) (k .accounts)
+
+module _ (f : MonthFile) (k : Kept) (stage : f .stage ≡ 1) (v : Valid f k) where
+  g : Gathering f
+  g = v .gathering stage
+
+  low : f .rows ≤ 512
+  low = omega (arith, g .rows, g .plants)
+
+  -- ---- a P line
+
+  module _ (ss ns gs ls vs figures : List ℕ)
+      (s : RowStored (f .rows) figures (k .submarket) ss (k .number) ns (k .guarantee) gs (k .loss) ls (k .availability) vs) (h : f .rows < f .plants) where
+    abbrev after : Kept
+    after = withColumns k ss ns gs ls vs
+
+    long : (old new : List ℕ) (x : ℕ) → new ≡ set old (f .rows) x → 512 ≤ length old → 512 ≤ length new
+    long old new x e m = omega (arith, ap length e, length-set old (f .rows) x)
+
+    lent : Lent after
+    lent =
+        record {
+          submarket = long (k .submarket) ss (getD figures 0 0) (s .submarket) (v .lent .submarket);
+          number = long (k .number) ns (getD figures 1 0) (s .number) (v .lent .number);
+          guarantee = long (k .guarantee) gs (getD figures 2 0) (s .guarantee) (v .lent .guarantee);
+          loss = long (k .loss) ls (getD figures 3 0) (s .loss) (v .lent .loss);
+          availability = long (k .availability) vs (getD figures 4 0) (s .availability) (v .lent .availability);
+          profile = v .lent .profile;
+          allotted = v .lent .allotted;
+          accounts = v .lent .accounts;
+        }
+
+    one-more : (old new : List ℕ) (x : ℕ) → new ≡ set old (f .rows) x → 512 ≤ length old → take (f .rows + 1) new ≡ take (f .rows) old ++ (x ∷ [])
+    one-more old new x e m = rw (e, add-one) (take-suc-set old (f .rows) x (omega (arith, h, g .plants)))
+
+    rows-after : rowsOf (f .rows + 1) after ≡ rowsOf (f .rows) k ++ (plantOf figures ∷ [])
+    unfolding rowsOf plantOf
+    rows-after =
+        rw (
+          one-more (k .submarket) ss (getD figures 0 0) (s .submarket) (v .lent .submarket),
+          one-more (k .number) ns (getD figures 1 0) (s .number) (v .lent .number),
+          one-more (k .guarantee) gs (getD figures 2 0) (s .guarantee) (v .lent .guarantee),
+          one-more (k .loss) ls (getD figures 3 0) (s .loss) (v .lent .loss),
+          one-more (k .availability) vs (getD figures 4 0) (s .availability) (v .lent .availability),
+        )
+        (rows-more _ _ _ _ _ _ _ _ _ _ (equal-rows k (v .lent) (f .rows) low))
+
+    takes-row : taken (f .count + 1) (progressOf f k) figures ≡ gathers (sizesOf f) (rowsOf (f .rows) k ++ (plantOf figures ∷ [])) (take (f .figures) (k .profile))
+    unfolding taken
+    takes-row = rw (gathers-is f k stage, length-rows k (v .lent) (f .rows) low, lt-ltb (f .rows) (f .plants) h)
+
+    row-stands : Moved f (gathers (sizesOf f) (rowsOf (f .rows) k ++ (plantOf figures ∷ [])) (take (f .figures) (k .profile)))
+        (gathered (atStage f 1) (f .periods) (f .plants) (f .tariff) (f .rows + 1) (f .figures)) after
+    unfolding atStage progressOf
+    row-stands =
+        record {
+          empty = refl;
+          counted = refl;
+          stands = ap (λ (r : List Plant). gathers (sizesOf f) r (take (f .figures) (k .profile))) rows-after;
+          valid = record {
+            lent = lent;
+            short = omega arith;
+            begun = λ e. absurd (omega arith);
+            gathering = λ e. record {
+              plants = g .plants;
+              periods = g .periods;
+              rows = omega (arith, h);
+              figures = g .figures;
+              counted = omega (arith, g .counted);
+            };
+            settling = λ e. absurd (omega arith);
+          };
+        }
+
+    pub row-moved : (q : MonthFile) → q ≡ atStage f 1
+        → Moved f (taken (f .count + 1) (progressOf f k) figures) (gathered q (q .periods) (q .plants) (q .tariff) (f .rows + 1) (q .figures)) after
+    unfolding atStage
+    row-moved q e =
+        moved-as f after lent row-stands (ap (λ (m : MonthFile). gathered m (m .periods) (m .plants) (m .tariff) (f .rows + 1) (m .figures)) (sym e)) (sym takes-row)
+
+  -- ---- an H line
+
+  module _ (figures : List ℕ) (h : f .plants ≤ f .rows) where
+    abbrev kwh : ℕ
+    kwh = getD figures 1 0
+
+    abbrev longer : Kept
+    longer = withProfile k (set (k .profile) (f .figures) kwh)
+
+    lent-longer : Lent longer
+    lent-longer =
+        record {
+          submarket = v .lent .submarket;
+          number = v .lent .number;
+          guarantee = v .lent .guarantee;
+          loss = v .lent .loss;
+          availability = v .lent .availability;
+          profile = omega (arith, v .lent .profile, length-set (k .profile) (f .figures) kwh);
+          allotted = v .lent .allotted;
+          accounts = v .lent .accounts;
+        }
+
+    all-rows : f .rows ≡ f .plants
+    all-rows = omega (arith, g .rows, h)
+
+    abbrev more : List ℕ
+    more = take (f .figures) (k .profile) ++ (kwh ∷ [])
+
+    profile-after : take (f .figures + 1) (longer .profile) ≡ more
+    profile-after = rw add-one (take-suc-set (k .profile) (f .figures) kwh (omega (arith, g .figures, g .periods, v .lent .profile)))
+
+    length-more : length more ≡ f .figures + 1
+    length-more =
+        length-append (take (f .figures) (k .profile)) (kwh ∷ [])
+        ∙ ap (λ (n : ℕ). n + 1) (length-take-le (f .figures) (k .profile) (omega (arith, g .figures, g .periods, v .lent .profile)))
+
+    abbrev due : Progress
+    due = cond (eqb (f .figures + 1) (f .periods)) (opened (f .count + 1) (sizesOf f) (rowsOf (f .rows) k) more) (gathers (sizesOf f) (rowsOf (f .rows) k) more)
+
+    takes-figure : taken (f .count + 1) (progressOf f k) figures ≡ due
+    unfolding taken
+    takes-figure =
+        rw (gathers-is f k stage, length-rows k (v .lent) (f .rows) low, le-ltb (f .rows) (f .plants) h, length-more)
+
+    figure-stands : f .figures + 1 < f .periods
+        → Moved f (gathers (sizesOf f) (rowsOf (f .rows) k) more) (gathered (atStage f 1) (f .periods) (f .plants) (f .tariff) (f .rows) (f .figures + 1)) longer
+    unfolding atStage progressOf rowsOf
+    figure-stands m =
+        record {
+          empty = refl;
+          counted = refl;
+          stands = ap (gathers (sizesOf f) (rowsOf (f .rows) k)) profile-after;
+          valid = record {
+            lent = lent-longer;
+            short = omega arith;
+            begun = λ e. absurd (omega arith);
+            gathering = λ e. record { plants = g .plants; periods = g .periods; rows = g .rows; figures = m; counted = omega (arith, g .counted) };
+            settling = λ e. absurd (omega arith);
+          };
+        }
+
+    pub figure-moved : f .figures + 1 < f .periods → (q : MonthFile) → q ≡ atStage f 1
+        → Moved f (taken (f .count + 1) (progressOf f k) figures) (gathered q (q .periods) (q .plants) (q .tariff) (q .rows) (f .figures + 1)) longer
+    unfolding atStage
+    figure-moved m q e =
+        moved-as f longer lent-longer (figure-stands m) (ap (λ (n : MonthFile). gathered n (n .periods) (n .plants) (n .tariff) (n .rows) (f .figures + 1)) (sym e))
+        (sym (takes-figure ∙ rw (ne-eqb (f .figures + 1) (f .periods) (λ z. omega arith))))
+
+    -- the last
+    module _ (m : f .periods ≤ f .figures + 1) where
+      last : f .figures + 1 ≡ f .periods
+      last = omega (arith, g .figures, m)
+
+      pub openable : Openable f longer
+      openable =
+          record { lent = lent-longer; plants = g .plants; periods = g .periods; counted = omega (arith, g .counted, all-rows, last) }
+
+      opens : openedOf f longer ≡ due
+      unfolding openedOf rowsOf
+      opens =
+          ap₂ (λ (n : ℕ) (p : List ℕ). opened (f .count + 1) (sizesOf f) (rowsOf n k) p) (sym all-rows)
+          (ap (λ (n : ℕ). take n (longer .profile)) (sym last) ∙ profile-after)
+          ∙ rw (eq-eqb (f .figures + 1) (f .periods) last)
+
+      pub last-moved : {r : MonthFile} {q : Kept} → Moved f (openedOf f longer) r q → Moved f (taken (f .count + 1) (progressOf f k) figures) r q
+      last-moved {r} {q} w = moved-as f q (w .valid .lent) w refl (opens ∙ sym takes-figure)

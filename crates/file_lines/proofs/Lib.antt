@@ -1,0 +1,8 @@
+-- Laws of the month file's lines.
+pub mod Following
+pub mod Rows
+pub mod Moves
+pub mod Opened
+pub mod Gathered
+pub mod Settled
+pub mod Taken

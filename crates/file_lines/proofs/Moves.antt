@@ -1,0 +1,109 @@
+-- What the state stands for once a line is read. Assumes nothing.
+use mathlib.Core.Path.{_≡_, refl, sym, ap, subst}
+use mathlib.Core.List.{[]}
+use Prim.Native.Nat.{ℕ, _+_}
+use native.Mathlib.Omega.{arith}
+use lib.ListN.{length}
+use Rattle.lists.specs.Questions.{outcome}
+use Rattle.lists.proofs.Questions.{refuses, accepts}
+use Rattle.hour.specs.Table.{plantsOf}
+use Rattle.month.specs.declared.Month.{Month}
+use Rattle.questions.specs.Questions.{sizesNumber}
+use Rattle.questions.proofs.Asked.{Sizes, sizes}
+use Rattle.file_lines.specs.declared.MonthFile.{MonthFile}
+use Rattle.file_lines.specs.File as file
+use Rattle.file_lines.specs.File.{Progress, gathers, begun, blank}
+use Rattle.file_lines.specs.State.{Kept, rowsOf, progressOf, Lent, Moved, atStart, atStage, atRefusal}
+
+-- before the first byte
+pub started : (m : Month) → m ≡ blank
+    → _≡_ {A = MonthFile}
+    (record { stage = 0; length = 0; count = 0; plants = 0; periods = 0; tariff = 0; rows = 0; figures = 0; month = m; number = 0 })
+    atStart
+started m e = ap (λ (b : Month). record { stage = 0; length = 0; count = 0; plants = 0; periods = 0; tariff = 0; rows = 0; figures = 0; month = b; number = 0 }) e
+
+-- a state with another number, or with other sizes and no rows and figures yet
+abbrev pub numbered : MonthFile → ℕ → MonthFile
+numbered f n =
+    record {
+      stage = f .stage;
+      length = f .length;
+      count = f .count;
+      plants = f .plants;
+      periods = f .periods;
+      tariff = f .tariff;
+      rows = f .rows;
+      figures = f .figures;
+      month = f .month;
+      number = n;
+    }
+
+abbrev pub gathered : MonthFile → ℕ → ℕ → ℕ → ℕ → ℕ → MonthFile
+gathered f periods plants tariff rows figures =
+    record {
+      stage = f .stage;
+      length = f .length;
+      count = f .count;
+      plants = plants;
+      periods = periods;
+      tariff = tariff;
+      rows = rows;
+      figures = figures;
+      month = f .month;
+      number = f .number;
+    }
+
+pub refused-is : (f g : MonthFile) (n : ℕ) → g ≡ atStage f 3 → numbered g n ≡ atRefusal f n
+unfolding atStage atRefusal
+refused-is f g n e = ap (λ (h : MonthFile). numbered h n) e
+
+module _ (f : MonthFile) (k : Kept) (lent : Lent k) where
+  -- a refusal
+  pub refused-moved : (n : ℕ) → Moved f (file.refuses (f .count + 1) n) (atRefusal f n) k
+  unfolding atRefusal progressOf
+  refused-moved n =
+      record {
+        empty = refl;
+        counted = refl;
+        stands = refl;
+        valid = record {
+          lent = lent;
+          short = omega arith;
+          begun = λ e. absurd (omega arith);
+          gathering = λ e. absurd (omega arith);
+          settling = λ e. absurd (omega arith);
+        };
+      }
+
+  pub moved-as : {p q : Progress} {r g : MonthFile} → Moved f p r k → r ≡ g → p ≡ q → Moved f q g k
+  moved-as {p} {q} {r} {g} m e d = subst (λ (h : MonthFile). Moved f q h k) e (subst (λ (h : Progress). Moved f h r k) d m)
+
+  -- ... by a number of questions
+  pub refuses-by : (r : MonthFile) (n m : ℕ) (y : Progress) → r ≡ atRefusal f n → n ≡ m → (n ≡ 0 → ⊥)
+      → Moved f (outcome m y (file.refuses (f .count + 1))) r k
+  refuses-by r n m y e q z = moved-as (refused-moved n) (sym e) (refuses n m y _ (file.refuses (f .count + 1)) q z refl)
+
+  -- the first line
+  begun-moved : (periods plants tariff : ℕ) → f .count ≡ 0 → Sizes plants periods tariff
+      → Moved f (gathers (record { periods = periods; plants = plants; tariff = tariff }) [] []) (gathered (atStage f 1) periods plants tariff 0 0) k
+  unfolding atStage progressOf rowsOf plantsOf
+  begun-moved periods plants tariff none s =
+      record {
+        empty = refl;
+        counted = refl;
+        stands = refl;
+        valid = record {
+          lent = lent;
+          short = omega arith;
+          begun = λ e. absurd (omega arith);
+          gathering = λ e. record { plants = s .plants; periods = s .periods; rows = omega arith; figures = omega (arith, s .somePeriods); counted = omega (arith, none) };
+          settling = λ e. absurd (omega arith);
+        };
+      }
+
+  pub begins-by : (g : MonthFile) (periods plants tariff n : ℕ) → f .count ≡ 0 → n ≡ sizesNumber plants periods tariff → n ≡ 0 → g ≡ atStage f 1
+      → Moved f (begun (f .count + 1) (record { periods = periods; plants = plants; tariff = tariff })) (gathered g periods plants tariff 0 0) k
+  unfolding begun
+  begins-by g periods plants tariff n none q z e =
+      moved-as (begun-moved periods plants tariff none (sizes plants periods tariff n q z)) (ap (λ (h : MonthFile). gathered h periods plants tariff 0 0) (sym e))
+      (accepts n (sizesNumber plants periods tariff) _ _ (file.refuses (f .count + 1)) q z refl)

@@ -1,0 +1,192 @@
+-- The month opened after the last H line. Assumes nothing.
+use mathlib.Core.Path.{_≡_, refl, sym, ap, ap₂, _∙_}
+use mathlib.Core.List.{List, _++_}
+use Prim.Native.Nat.{ℕ, zero, suc, _+_, _*_, _≤_}
+use native.Mathlib.Omega.{arith}
+use lib.IntN.{ℤ, pos}
+use lib.ListN.{length, take, drop, length-replicate}
+use lib.Seq.{length-take-le, length-front, take-at}
+use Rattle.lists.specs.Questions.{outcome}
+use Rattle.lists.proofs.Questions.{accepted, outcome-part}
+use Rattle.hour.specs.declared.Plant.{Plant}
+use Rattle.ledger.specs.Ledger.{Ledger, zeros, inBounds}
+use Rattle.ledger.proofs.Bounds.{zeros-in-bounds}
+use Rattle.month.specs.declared.Month.{Month}
+use Rattle.month.specs.declared.Opened.{Opened}
+use Rattle.month.specs.declared.Stage.the-variants.{Open}
+use Rattle.questions.specs.Questions.{lengthsNumber, tablesNumber}
+use Rattle.month.specs.Questions.{openNumber}
+use Rattle.month.specs.Calls.{OpenEnd, openCall}
+use Rattle.month.proofs.Asked as asked
+use Rattle.file_lines.specs.declared.MonthFile.{MonthFile}
+use Rattle.file_lines.specs.File as file
+use Rattle.file_lines.specs.File.{settles, blank, opened}
+use Rattle.file_lines.specs.State.{Kept, kept, rowsOf, ledgerOf, progressOf, Lent, Moved, atStage, atRefusal, Openable, openedOf}
+use Rattle.file_lines.proofs.Rows.{length-rows}
+use Rattle.file_lines.proofs.Moves.{moved-as, refuses-by}
+
+-- the front of a list that is lent has as many elements as were asked for
+pub front-count {ℓ} : {A : Type ℓ} (n : ℕ) (l : List A) → n ≤ length l → n ≡ length (take n l)
+front-count n l h = sym (length-take-le n l h)
+
+pub number-itself : (n : ℕ) → outcome n 0 (λ k. k) ≡ n
+unfolding outcome
+number-itself zero = refl
+number-itself (suc n) = refl
+
+-- of the ledger open asks the lengths alone
+open-alike : (m : Month) (plants : List Plant) (profile : List ℕ) (t : ℕ) (l g : Ledger) → length (l .allotted) ≡ length (g .allotted) → length (l .accounts) ≡ length (g .accounts)
+    → openNumber m plants profile t l ≡ openNumber m plants profile t g
+unfolding openNumber tablesNumber lengthsNumber
+open-alike m plants profile t l g p q = rw (p, q)
+
+pub open-number : (m : Month) (plants : List Plant) (profile : List ℕ) (t : ℕ) (l : Ledger) → openCall m plants profile t l .answer .number ≡ openNumber m plants profile t l
+unfolding openCall
+open-number m plants profile t l = outcome-part (λ (r : OpenEnd). r .answer .number) (openNumber m plants profile t l) _ _ ∙ number-itself _
+
+-- a state with another month
+abbrev pub monthed : MonthFile → Month → MonthFile
+monthed f m =
+    record {
+      stage = f .stage;
+      length = f .length;
+      count = f .count;
+      plants = f .plants;
+      periods = f .periods;
+      tariff = f .tariff;
+      rows = f .rows;
+      figures = f .figures;
+      month = m;
+      number = f .number;
+    }
+
+-- the lists with other ledger figures at their front
+abbrev pub withLedger : Kept → ℕ → List ℕ → List ℤ → Kept
+withLedger k p ys zs =
+    kept (k .submarket) (k .number) (k .guarantee) (k .loss) (k .availability) (k .profile) (ys ++ drop (4 * p) (k .allotted)) (zs ++ drop (2 * p) (k .accounts))
+
+module _ (k : Kept) (lent : Lent k) (p : ℕ) (few : p ≤ 512) (ys : List ℕ) (zs : List ℤ)
+    (many : length ys ≡ length (take (4 * p) (k .allotted))) (more : length zs ≡ length (take (2 * p) (k .accounts))) where
+  fours : length ys ≡ 4 * p
+  fours = many ∙ length-take-le (4 * p) (k .allotted) (omega (arith, lent .allotted))
+
+  twos : length zs ≡ 2 * p
+  twos = more ∙ length-take-le (2 * p) (k .accounts) (omega (arith, lent .accounts))
+
+  pub lent-after : Lent (withLedger k p ys zs)
+  lent-after =
+      record {
+        submarket = lent .submarket;
+        number = lent .number;
+        guarantee = lent .guarantee;
+        loss = lent .loss;
+        availability = lent .availability;
+        profile = lent .profile;
+        allotted = omega (arith, lent .allotted, length-front (k .allotted) ys (4 * p) many);
+        accounts = omega (arith, lent .accounts, length-front (k .accounts) zs (2 * p) more);
+      }
+
+  pub ledger-after : ledgerOf p (withLedger k p ys zs) ≡ record { allotted = ys; accounts = zs }
+  unfolding ledgerOf
+  ledger-after = ap₂ (λ (a : List ℕ) (b : List ℤ). record { allotted = a; accounts = b }) (take-at ys _ (4 * p) fours) (take-at zs _ (2 * p) twos)
+
+module _ (f : MonthFile) (k : Kept) (o : Openable f k) (end : Opened) (ys : List ℕ) (zs : List ℤ)
+    (e : _≡_ {A = OpenEnd} (record { answer = end; ledger = record { allotted = ys; accounts = zs } })
+    (openCall blank (rowsOf (f .plants) k) (take (f .periods) (k .profile)) (f .tariff) (ledgerOf (f .plants) k)))
+    (many : length ys ≡ length (take (4 * f .plants) (k .allotted))) (more : length zs ≡ length (take (2 * f .plants) (k .accounts))) where
+  abbrev rows : List Plant
+  rows = rowsOf (f .plants) k
+
+  abbrev profile : List ℕ
+  profile = take (f .periods) (k .profile)
+
+  abbrev after : Kept
+  after = withLedger k (f .plants) ys zs
+
+  abbrev fresh : OpenEnd
+  fresh = openCall blank rows profile (f .tariff) (zeros (length rows))
+
+  p-rows : length rows ≡ f .plants
+  p-rows = length-rows k (o .lent) (f .plants) (o .plants)
+
+  h-figures : length profile ≡ f .periods
+  h-figures = length-take-le (f .periods) (k .profile) (omega (arith, o .periods, o .lent .profile))
+
+  -- the ledger lent is as long as one of zeros
+  alike : openNumber blank rows profile (f .tariff) (ledgerOf (f .plants) k) ≡ openNumber blank rows profile (f .tariff) (zeros (length rows))
+  unfolding zeros ledgerOf
+  alike =
+      open-alike blank rows profile (f .tariff) _ _
+      (length-take-le (4 * f .plants) (k .allotted) (omega (arith, o .plants, o .lent .allotted)) ∙ rw p-rows (sym (length-replicate (4 * f .plants) 0)))
+      (length-take-le (2 * f .plants) (k .accounts) (omega (arith, o .plants, o .lent .accounts)) ∙ rw p-rows (sym (length-replicate (2 * f .plants) (pos 0))))
+
+  asks : end .number ≡ openNumber blank rows profile (f .tariff) (ledgerOf (f .plants) k)
+  asks = ap (λ (r : OpenEnd). r .answer .number) e ∙ open-number _ _ _ _ _
+
+  pub opening-refused : (r : MonthFile) → r ≡ atRefusal f (end .number) → (end .number ≡ 0 → ⊥) → Moved f (openedOf f k) r after
+  unfolding openedOf opened
+  opening-refused r q z =
+      refuses-by f after (lent-after k (o .lent) (f .plants) (o .plants) ys zs many more) r (end .number) (fresh .answer .number) _ q
+      (asks ∙ alike ∙ sym (open-number _ _ _ _ _)) z
+
+  -- the month that is opened
+  abbrev month : Month
+  month = record { stage = Open; plants = f .plants; periods = f .periods; tariff = f .tariff; due = 1 }
+
+  abbrev isOpened : OpenEnd
+  isOpened = record { answer = record { number = 0; month = month }; ledger = zeros (f .plants) }
+
+  open-is : (l : Ledger) → openNumber blank rows profile (f .tariff) l ≡ 0 → openCall blank rows profile (f .tariff) l ≡ isOpened
+  unfolding openCall
+  open-is l z =
+      accepted _ _ _ z
+      ∙ ap₂ (λ (n h : ℕ). record {
+        answer = record { number = 0; month = record { stage = Open; plants = n; periods = h; tariff = f .tariff; due = 1 } };
+        ledger = zeros n;
+      }) p-rows h-figures
+
+  module _ (z : end .number ≡ 0) where
+    none : openNumber blank rows profile (f .tariff) (ledgerOf (f .plants) k) ≡ 0
+    none = sym asks ∙ z
+
+    left : _≡_ {A = OpenEnd} (record { answer = end; ledger = record { allotted = ys; accounts = zs } }) isOpened
+    left = e ∙ open-is _ none
+
+    ledger-is : ledgerOf (f .plants) after ≡ zeros (f .plants)
+    ledger-is = ledger-after k (o .lent) (f .plants) (o .plants) ys zs many more ∙ ap (λ (r : OpenEnd). r .ledger) left
+
+    opens : openedOf f k ≡ settles rows profile month (zeros (f .plants))
+    unfolding openedOf opened outcome
+    opens = ap (λ (r : OpenEnd). outcome (r .answer .number) (settles rows profile (r .answer .month) (r .ledger)) (file.refuses (f .count + 1))) (open-is _ (sym alike ∙ none))
+
+    stands : progressOf (monthed (atStage f 2) month) after ≡ settles rows profile month (zeros (f .plants))
+    unfolding progressOf atStage rowsOf
+    stands = ap (settles rows profile month) ledger-is
+
+    opened-moved : Moved f (openedOf f k) (monthed (atStage f 2) month) after
+    unfolding atStage rowsOf
+    opened-moved =
+        record {
+          empty = refl;
+          counted = refl;
+          stands = stands ∙ sym opens;
+          valid = record {
+            lent = lent-after k (o .lent) (f .plants) (o .plants) ys zs many more;
+            short = omega arith;
+            begun = λ q. absurd (omega arith);
+            gathering = λ q. absurd (omega arith);
+            settling = λ q. record {
+              plants = o .plants;
+              periods = o .periods;
+              due = omega arith;
+              counted = omega (arith, o .counted);
+              rows = asked.opened blank rows profile (f .tariff) _ none .1 .rows;
+              bounded = ap inBounds ledger-is ∙ zeros-in-bounds (f .plants);
+            };
+          };
+        }
+
+    pub opening-opened : (g : MonthFile) → g ≡ atStage f 2 → Moved f (openedOf f k) (monthed g (end .month)) after
+    opening-opened g q =
+        moved-as f after (lent-after k (o .lent) (f .plants) (o .plants) ys zs many more) opened-moved
+        (sym (ap₂ monthed q (ap (λ (r : OpenEnd). r .answer .month) left))) refl

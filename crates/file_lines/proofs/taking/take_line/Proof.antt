@@ -1,0 +1,43 @@
+-- `taking::take_line` meets its contract. Assumes nothing.
+use mathlib.Core.Path.{sym, _∙_}
+use native.Mathlib.Omega.{arith}
+use borrow.Author.Needs.{needs}
+use borrow.Author.Tests.{not-true, not-false}
+use Rattle.file_lines.specs.State.{Kept, kept}
+use Rattle.file_lines.proofs.Opened.{front-count}
+use Rattle.file_lines.proofs.Taken.{few-lines, profile-count, reading-refused, room, out-of-turn, figures-in-turn, line-taken}
+use Rattle.file_lines.proofs.taking.take_line.Statement.{statement}
+use Rattle.file_lines.proofs.taking.take_line.Tie as tie
+
+abbrev lists : tie.Start → Kept
+lists s =
+    let a = s .args in
+    kept (a .submarket .now) (a .number .now) (a .guarantee .now) (a .loss .now) (a .availability .now) (a .profile .now) (a .allotted .now) (a .accounts .now)
+
+pub take-line-spec : {M : Type 1} → statement M
+take-line-spec =
+    tie.close
+    (tie.spec
+    (λ c κs. search needs)  -- read-line-requires
+    (λ c κs. let s = c .before .before .before .before .before .before .before .before .before .before .before .before .before .before .before .before in few-lines _ (lists s) (s .pre .1) (s .pre .0 .0))  -- refused-requires
+    (λ c. c .before .before .before .before .before .read-line .kept .1 .0)  -- same-length
+    (λ c. let s = c .before .before .before .before .before .before .before .before .before .before .before .before .before .before .before .before .before in reading-refused _ (lists s) (s .pre .1) (s .pre .0 .0) _ _ _ _ (s .pre .0 .1) (c .before .before .before .before .before .read-line .ensures) _ (c .refused .ensures) (c .before .if1 .taken))  -- returns
+    (λ c. search needs)  -- slice-read-in-turn
+    (λ c κs. let s = c .before .before .before .before .before .before .before .before .before .before .before .before .before .before .before .before .before in profile-count _ (lists s) (s .pre .1) (s .pre .0 .0))  -- in-turn-requires
+    (λ c κs. let s = c .before .before .before .before .before .before .before .before .before .before .before .before .before .before .before .before .before .before .before in few-lines _ (lists s) (s .pre .1) (s .pre .0 .0))  -- refused-requires-2
+    (λ c. c .before .before .before .before .before .before .before .before .read-line .kept .1 .0)  -- same-length-2
+    (λ c. let s = c .before .before .before .before .before .before .before .before .before .before .before .before .before .before .before .before .before .before .before .before in out-of-turn _ (lists s) (s .pre .1) (s .pre .0 .0) _ _ _ _ (s .pre .0 .1) (c .before .before .before .before .before .before .before .before .read-line .ensures) (c .before .before .before .before .if1 .left) _ (c .refused2 .ensures) (sym (c .before .before .in-turn .ensures) ∙ not-true _ (c .before .if2 .taken)))  -- returns-2
+    (λ c. let s = c .before .before .before .before .before .before .before .before .before .before .before .before .before .before .before .before .before .before .before in omega (arith, s .pre .0 .1, c .before .before .before .before .before .before .before .read-line .kept .1 .0, room _ (lists s) (s .pre .1) (s .pre .0 .0) _ _ _ _ (s .pre .0 .1) (c .before .before .before .before .before .before .before .read-line .ensures) (c .before .before .before .if1 .left)))  -- slice-reshare-prefix-take-figures
+    (λ c. let s = c .before .before .before .before .before .before .before .before .before .before .before .before .before .before .before .before .before .before .before .before in front-count _ _ (omega (arith, s .pre .0 .1, c .before .before .before .before .before .before .before .before .read-line .kept .1 .0, room _ (lists s) (s .pre .1) (s .pre .0 .0) _ _ _ _ (s .pre .0 .1) (c .before .before .before .before .before .before .before .before .read-line .ensures) (c .before .before .before .before .if1 .left))))  -- slice-aggregate-take-figures
+    (λ c κs. let s = c .before .before .before .before .before .before .before .before .before .before .before .before .before .before .before .before .before .before .before .before .before .before .before .before .before .before .before .before .before in ((figures-in-turn _ (lists s) (s .pre .1) (s .pre .0 .0) _ _ _ _ (s .pre .0 .1) (c .before .before .before .before .before .before .before .before .before .before .before .before .before .before .before .before .before .read-line .ensures) (c .before .before .before .before .before .before .before .before .before .before .before .before .before .if1 .left) (sym (c .before .before .before .before .before .before .before .before .before .before .before .in-turn .ensures) ∙ not-false _ (c .before .before .before .before .before .before .before .before .before .before .if2 .left)), s .pre .0 .2), s .pre .1))  -- take-figures-requires
+    (λ c. c .before .before .before .before .before .before .before .before .before .before .before .before .before .before .before .before .before .before .before .before .before .before .before .before .before .before .before .before .before .before .before .before .before .before .before .read-line .kept .1 .0)  -- same-length-3
+    (λ c. c .before .before .before .before .before .before .before .before .before .before .before .before .before .before .before .before .before .take-figures .kept .1 .1 .0)  -- same-length-4
+    (λ c. c .before .before .before .before .before .before .before .before .before .before .before .before .before .before .before .before .before .take-figures .kept .1 .1 .1 .0)  -- same-length-5
+    (λ c. c .before .before .before .before .before .before .before .before .before .before .before .before .before .before .before .before .before .take-figures .kept .1 .1 .1 .1 .0)  -- same-length-6
+    (λ c. c .before .before .before .before .before .before .before .before .before .before .before .before .before .before .before .before .before .take-figures .kept .1 .1 .1 .1 .1 .0)  -- same-length-7
+    (λ c. c .before .before .before .before .before .before .before .before .before .before .before .before .before .before .before .before .before .take-figures .kept .1 .1 .1 .1 .1 .1 .0)  -- same-length-8
+    (λ c. c .before .before .before .before .before .before .before .before .before .before .before .before .before .before .before .before .before .take-figures .kept .1 .1 .1 .1 .1 .1 .1 .0)  -- same-length-9
+    (λ c. c .before .before .before .before .before .before .before .before .before .before .before .before .before .before .before .before .before .take-figures .kept .1 .1 .1 .1 .1 .1 .1 .1 .0)  -- same-length-10
+    (λ c. c .before .before .before .before .before .before .before .before .before .before .before .before .before .before .before .before .before .take-figures .kept .1 .1 .1 .1 .1 .1 .1 .1 .1 .0)  -- same-length-11
+    (λ c. c .before .before .before .before .before .before .before .before .before .before .before .before .before .before .before .before .before .take-figures .kept .1 .1 .1 .1 .1 .1 .1 .1 .1 .1 .0)  -- same-length-12
+    (λ c. let s = c .before .before .before .before .before .before .before .before .before .before .before .before .before .before .before .before .before .before .before .before .before .before .before .before .before .before .before .before .before .before .before .before .before .before .before .before .before .before .before .before .before .before .before .before .before .before .before in line-taken _ (lists s) (s .pre .1) (s .pre .0 .0) _ _ _ _ (s .pre .0 .1) (c .before .before .before .before .before .before .before .before .before .before .before .before .before .before .before .before .before .before .before .before .before .before .before .before .before .before .before .before .before .before .before .before .before .before .before .read-line .ensures) (c .before .before .before .before .before .before .before .before .before .before .before .before .before .before .before .before .before .before .before .before .before .before .before .before .before .before .before .before .before .before .before .if1 .left) (sym (c .before .before .before .before .before .before .before .before .before .before .before .before .before .before .before .before .before .before .before .before .before .before .before .before .before .before .before .before .before .in-turn .ensures) ∙ not-false _ (c .before .before .before .before .before .before .before .before .before .before .before .before .before .before .before .before .before .before .before .before .before .before .before .before .before .before .before .before .if2 .left)) (c .before .before .before .before .before .before .before .before .before .before .before .before .before .before .before .before .before .take-figures .ensures)))  -- returns-3

@@ -1,0 +1,61 @@
+// The month is opened after the last H line.
+use crate::MonthFile;
+use month::Month;
+use month::Stage;
+ghost use mathlib.Core.Path.{_≡_};
+ghost use Prim.Native.Nat.{_+_, _≤_};
+ghost use Rattle.file_lines.specs.File as definition;
+ghost use Rattle.file_lines.specs.State.{kept, rowsOf, Lent, Moved, Openable, openedOf};
+
+// A blank month.
+pub fn blank() -> Month
+    ensures { λ r. ⌜ r ≡ definition.blank ⌝ }
+{
+    Month {
+        stage: Stage::Blank,
+        plants: 0,
+        periods: 0,
+        tariff: 0,
+        due: 0,
+    }
+}
+
+// Opens the month of the rows and the profile that are kept.
+pub fn open_month(
+    file: MonthFile,
+    submarket: &[u64],
+    number: &[u64],
+    guarantee: &[u64],
+    loss: &[u64],
+    availability: &[u64],
+    profile: &[u64],
+    allotted: &mut [u64],
+    accounts: &mut [i64],
+) -> MonthFile
+    requires { ⌜ Openable file (kept (now submarket) (now number) (now guarantee) (now loss) (now availability) (now profile) (now allotted) (now accounts)) ⌝ }
+    ensures { λ r. ⌜ Moved file (openedOf file (kept (now (submarket .entry)) (now (number .entry)) (now (guarantee .entry)) (now (loss .entry)) (now (availability .entry)) (now (profile .entry)) (now (allotted .entry)) (now (accounts .entry)))) r (kept (now (submarket .entry)) (now (number .entry)) (now (guarantee .entry)) (now (loss .entry)) (now (availability .entry)) (now (profile .entry)) (now (allotted .exit)) (now (accounts .exit))) ⌝ }
+{
+    let rows = file.plants as usize;
+    let figures = file.periods as usize;
+    let fours = 4 * rows;
+    let twos = 2 * rows;
+    let month = blank();
+    let end = month.open_columns(
+        &submarket[..rows],
+        &number[..rows],
+        &guarantee[..rows],
+        &loss[..rows],
+        &availability[..rows],
+        &profile[..figures],
+        file.tariff,
+        &mut allotted[..fours],
+        &mut accounts[..twos],
+    );
+    if end.number != 0 {
+        return file.refused(end.number);
+    }
+    let month = end.month;
+    let mut f = file.at_stage(2);
+    f.month = month;
+    f
+}

@@ -1,0 +1,24 @@
+-- `feed_kept` meets its contract. Assumes nothing.
+use Rattle.kept_file.proofs.KeptFiles.{feeds}
+use Rattle.kept_file.proofs.feed_kept.Statement.{statement}
+use Rattle.kept_file.proofs.feed_kept.Tie as tie
+
+pub feed-kept-spec : {M : Type 1} → statement M
+feed-kept-spec =
+    tie.close
+    (tie.spec
+    (λ c κs. tt)  -- file-of-requires
+    (λ c κs. tt)  -- feed-any-requires
+    (λ c κs. tt)  -- file-back-requires
+    (λ c. c .before .before .before .before .before .before .before .before .before .before .before .before .before .before .before .before .before .before .before .before .before .before .before .feed-any .kept .1 .1 .0)  -- same-length
+    (λ c. c .before .before .before .before .before .before .before .before .before .before .before .before .before .before .before .before .before .before .before .before .before .before .before .feed-any .kept .1 .1 .1 .0)  -- same-length-2
+    (λ c. c .before .before .before .before .before .before .before .before .before .before .before .before .before .before .before .before .before .before .before .before .before .before .before .feed-any .kept .1 .1 .1 .1 .0)  -- same-length-3
+    (λ c. c .before .before .before .before .before .before .before .before .before .before .before .before .before .before .before .before .before .before .before .before .before .before .before .feed-any .kept .1 .1 .1 .1 .1 .0)  -- same-length-4
+    (λ c. c .before .before .before .before .before .before .before .before .before .before .before .before .before .before .before .before .before .before .before .before .before .before .before .feed-any .kept .1 .1 .1 .1 .1 .1 .0)  -- same-length-5
+    (λ c. c .before .before .before .before .before .before .before .before .before .before .before .before .before .before .before .before .before .before .before .before .before .before .before .feed-any .kept .1 .1 .1 .1 .1 .1 .1 .0)  -- same-length-6
+    (λ c. c .before .before .before .before .before .before .before .before .before .before .before .before .before .before .before .before .before .before .before .before .before .before .before .feed-any .kept .1 .1 .1 .1 .1 .1 .1 .1 .0)  -- same-length-7
+    (λ c. c .before .before .before .before .before .before .before .before .before .before .before .before .before .before .before .before .before .before .before .before .before .before .before .feed-any .kept .1 .1 .1 .1 .1 .1 .1 .1 .1 .0)  -- same-length-8
+    (λ c. c .before .before .before .before .before .before .before .before .before .before .before .before .before .before .before .before .before .before .before .before .before .before .before .feed-any .kept .1 .1 .1 .1 .1 .1 .1 .1 .1 .1 .0)  -- same-length-9
+    (λ c. c .before .before .before .before .before .before .before .before .before .before .before .before .before .before .before .before .before .before .before .before .before .before .before .feed-any .kept .1 .1 .1 .1 .1 .1 .1 .1 .1 .1 .1 .0)  -- same-length-10
+    (λ c. c .before .before .before .before .before .before .before .before .before .before .before .before .before .before .before .before .before .before .before .before .before .before .before .feed-any .kept .1 .1 .1 .1 .1 .1 .1 .1 .1 .1 .1 .1 .0)  -- same-length-11
+    (λ c. feeds _ _ _ _ (c .before .before .before .before .before .before .before .before .before .before .before .before .before .before .before .before .before .before .before .before .before .before .before .before .before .before .before .before .before .before .before .before .before .before .before .file-of .ensures) (c .before .before .before .before .before .before .before .before .before .before .before .before .before .before .before .before .before .before .before .before .before .before .before .feed-any .ensures) (c .file-back .ensures)))  -- returns

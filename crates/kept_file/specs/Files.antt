@@ -1,0 +1,49 @@
+-- The month file's state as a C program keeps it. Assumes nothing.
+use mathlib.Core.Path.{_≡_}
+use mathlib.Core.List.{List}
+use Prim.Native.Nat.{ℕ}
+use Rattle.lists.specs.Questions.{outcome}
+use Rattle.file_lines.specs.declared.MonthFile.{MonthFile}
+use Rattle.file_calls.specs.Checking.{FeedLists, FedAny}
+use Rattle.kept_file.specs.declared.KeptFile.{KeptFile}
+use Rattle.kept_file.specs.declared.KeptFed.{KeptFed}
+use Rattle.kept_month.specs.Months.{monthOf, keptOf}
+
+unfoldable pub fileOf : KeptFile → MonthFile
+fileOf k =
+    record {
+      stage = k .stage;
+      length = k .length;
+      count = k .count;
+      plants = k .plants;
+      periods = k .periods;
+      tariff = k .tariff;
+      rows = k .rows;
+      figures = k .figures;
+      month = monthOf (k .month);
+      number = k .number;
+    }
+
+unfoldable pub keptFileOf : MonthFile → KeptFile
+keptFileOf f =
+    record {
+      stage = f .stage;
+      length = f .length;
+      count = f .count;
+      plants = f .plants;
+      periods = f .periods;
+      tariff = f .tariff;
+      rows = f .rows;
+      figures = f .figures;
+      month = keptOf (f .month);
+      number = f .number;
+    }
+
+-- taken, the state that the call hands back; refused, the caller's own, figure for figure
+unfoldable pub fileBack : ℕ → KeptFile → MonthFile → KeptFile
+fileBack number k f = outcome number (keptFileOf f) (λ _. k)
+
+-- feed: what `feed_any` answers on the state that is meant; refused, the caller's own state comes back, figure for figure
+pub record FileFed (k : KeptFile) (part : List ℕ) (l : FeedLists) (r : KeptFed) (after : FeedLists) : Type 0 where
+  pub fed : FedAny (fileOf k) part l (record { number = r .number; file = fileOf (r .file) }) after
+  pub same : (r .number ≡ 0 → ⊥) → r .file ≡ k

@@ -1,0 +1,2 @@
+-- The month file's state as C keeps it.
+pub mod Files

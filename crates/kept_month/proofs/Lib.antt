@@ -1,0 +1,2 @@
+-- Laws of the month as C keeps it.
+pub mod Kept

@@ -1,0 +1,3 @@
+-- The month as C keeps it.
+pub mod Months
+pub mod Laws

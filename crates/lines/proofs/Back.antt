@@ -1,0 +1,90 @@
+-- A line as it is written reads back. Assumes nothing.
+use mathlib.Core.Path.{_≡_, refl, ap, ap₂, _∙_}
+use mathlib.Core.Bool.{true}
+use mathlib.Core.List.{List, [], _∷_, _++_, map}
+use Prim.Native.Nat.{ℕ, suc, _-_, _^_, _≤_}
+use native.Mathlib.Omega.{arith}
+use borrow.Author.Tests.{le-leb, ne-eqb}
+use lib.ListN.{length, drop, length-map}
+use Rattle.lists.specs.Lists.{Within, every}
+use Rattle.lists.specs.Questions.{firstNo}
+use Rattle.lists.proofs.Questions.{both, and-both, limits, in-range, accepted}
+use Rattle.figures.specs.Figures.{figure, value, isDigit, isFigure}
+use Rattle.figures.proofs.Promised as figures
+use Rattle.lines.specs.Fields.{fields, toFirst}
+use Rattle.lines.specs.Reading.{startsWith, lineStart, startLength, lineFields, countFits, readNumber, ReadEnd, readCall}
+use Rattle.lines.specs.Laws.{figuresText, meterLine}
+
+-- ---- digits hold no comma
+
+no-comma : (b : ℕ) → isDigit b ≡ true → b ≡ 44 → ⊥
+unfolding isDigit
+no-comma b e p = let l = limits 48 57 b e in omega arith
+
+fields-alone : (f : List ℕ) → every isDigit f ≡ true → fields f ≡ f ∷ []
+unfolding fields toFirst every
+fields-alone [] e = refl
+fields-alone (b ∷ bs) e =
+    let p = both (isDigit b) (every isDigit bs) e in
+    rw (ne-eqb b 44 (no-comma b (p .0)), fields-alone bs (p .1))
+
+fields-behind : (f rest : List ℕ) → every isDigit f ≡ true → fields (f ++ (44 ∷ rest)) ≡ f ∷ fields rest
+unfolding fields toFirst every
+fields-behind [] rest e = refl
+fields-behind (b ∷ bs) rest e =
+    let p = both (isDigit b) (every isDigit bs) e in
+    rw (ne-eqb b 44 (no-comma b (p .0)), fields-behind bs rest (p .1))
+
+-- ---- the fields of figures written
+
+fields-figures : (x : ℕ) (xs : List ℕ) → fields (figuresText (x ∷ xs)) ≡ map figure (x ∷ xs)
+unfolding figuresText
+fields-figures x [] = fields-alone (figure x) (figures.digits-all x)
+fields-figures x (y ∷ ys) =
+    fields-behind (figure x) (figuresText (y ∷ ys)) (figures.digits-all x) ∙ ap (λ (fs : List (List ℕ)). figure x ∷ fs) (fields-figures y ys)
+
+good-figures : (xs : List ℕ) → Within xs (10 ^ 19 - 1) → every isFigure (map figure xs) ≡ true
+unfolding every
+good-figures [] w = refl
+good-figures (x ∷ xs) w =
+    and-both (isFigure (figure x)) (every isFigure (map figure xs)) (figures.promised .readable x (omega (arith, w .at 0))) (good-figures xs (record { at = λ i. w .at (suc i) }))
+
+values-back : (xs : List ℕ) → map value (map figure xs) ≡ xs
+values-back [] = refl
+values-back (x ∷ xs) = ap₂ (λ (v : ℕ) (vs : List ℕ). v ∷ vs) (figures.promised .back x) (values-back xs)
+
+-- ---- a G line
+
+module _ (period : ℕ) (metered : List ℕ) where
+  meter-starts : lineStart (meterLine period metered) ≡ 4
+  unfolding lineStart startsWith meterLine
+  meter-starts = refl
+
+  meter-fields : lineFields (meterLine period metered) ≡ map figure (period ∷ metered)
+  unfolding lineFields startLength lineStart startsWith meterLine
+  meter-fields = fields-figures period metered
+
+  counted : length (lineFields (meterLine period metered)) ≡ length (period ∷ metered)
+  counted = ap length meter-fields ∙ length-map (period ∷ metered) figure
+
+  fits : 1 ≤ length metered → length metered ≤ 512 → countFits 4 (length (period ∷ metered)) ≡ true
+  unfolding countFits
+  fits some few = in-range 2 513 (length (period ∷ metered)) (omega arith) (omega arith)
+
+  number : (places : ℕ) → Within (period ∷ metered) (10 ^ 19 - 1) → 1 ≤ length metered → length metered ≤ 512
+      → length (meterLine period metered) ≤ 8192 → length (period ∷ metered) ≤ places → readNumber (meterLine period metered) places ≡ 0
+  unfolding readNumber firstNo
+  number places w some few short room =
+      rw (le-leb (length (meterLine period metered)) 8192 short, meter-starts, counted, fits some few, meter-fields, good-figures (period ∷ metered) w, le-leb (length (period ∷ metered)) places room)
+
+  pub meter-back : (places : List ℕ) → Within (period ∷ metered) (10 ^ 19 - 1) → 1 ≤ length metered → length metered ≤ 512
+      → length (meterLine period metered) ≤ 8192 → length (period ∷ metered) ≤ length places
+      → readCall (meterLine period metered) places
+      ≡ record { answer = record { number = 0; start = 4; fields = length (period ∷ metered) }; figures = (period ∷ metered) ++ drop (length (period ∷ metered)) places }
+  unfolding readCall
+  meter-back places w some few short room =
+      accepted (readNumber (meterLine period metered) (length places)) _ _ (number (length places) w some few short room)
+      ∙ rw (meter-starts, counted, meter-fields) (ap left (values-back (period ∷ metered)))
+    where
+      left : List ℕ → ReadEnd
+      left values = record { answer = record { number = 0; start = 4; fields = length (period ∷ metered) }; figures = values ++ drop (length (period ∷ metered)) places }

@@ -1,0 +1,23 @@
+-- `modulation::guaranteed` meets its contract. Assumes nothing.
+use Prim.Native.Nat.{_≤_}
+use native.Mathlib.Nat.{mul-le-mul}
+use native.Mathlib.Omega.{arith}
+use borrow.Author.Needs.{needs}
+use Rattle.lists.proofs.Bounds.{scaled}
+use Rattle.modulation.proofs.Profile.{part-by-le}
+use Rattle.modulation.proofs.guaranteed.Statement.{statement}
+use Rattle.modulation.proofs.guaranteed.Tie as tie
+
+part : (c : tie.After-modulated) → c .modulated .result ≤ c .before .args .q
+part c =
+    let start = c .before in
+    rw (c .modulated .ensures) (part-by-le (start .args .before) (start .args .upto) (start .args .q) (start .pre .0))
+
+pub guaranteed-spec : {M : Type 1} → statement M
+guaranteed-spec =
+    tie.close
+    (tie.spec
+    (λ c κs. search needs)  -- modulated-requires
+    (λ c. omega (arith, mul-le-mul (part c) (c .before .pre .2)))  -- mul-delivered
+    (λ c. omega (arith, mul-le-mul (scaled (part c) (c .before .pre .2)) (c .before .pre .3)))  -- mul-result
+    (λ c. rw (c .modulated .ensures)))  -- returns

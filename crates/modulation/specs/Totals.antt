@@ -1,0 +1,41 @@
+-- Steps 1 and 2 by running totals of the profile, as the inner functions state them. Assumes nothing.
+use mathlib.Core.Path.{_≡_}
+use Prim.Native.Nat.{ℕ, _-_, _*_, _/_, _^_, _≤_, _<_}
+use mathlib.Core.List.{List}
+use lib.ListN.{take, getD}
+use Rattle.lists.specs.Lists.{sum}
+use Rattle.modulation.specs.declared.Modulation.{Modulation}
+use Rattle.modulation.specs.declared.ratio.Ratio.{Ratio}
+use Rattle.modulation.specs.Guarantee.{reducedBy}
+use Rattle.modulation.specs.Ratio.{Prepared}
+
+-- Step 1: running totals of the profile at period k (counted from 1)
+unfoldable pub modulationOf : List ℕ → ℕ → Modulation
+modulationOf profile k = record { before = sum (take (k - 1) profile); upto = sum (take k profile); whole = sum profile }
+
+pub record Ordered (m : Modulation) : Type 0 where
+  pub lower : m .before ≤ m .upto
+  pub upper : m .upto ≤ m .whole
+  pub some : 0 < m .whole
+  pub small : m .whole < 2 ^ 43
+
+-- ... and the part of Q: floor(Q × Ck / W) − floor(Q × C(k−1) / W)
+abbrev pub partOf : Modulation → ℕ → ℕ
+partOf m q = q * m .upto / m .whole - q * m .before / m .whole
+
+-- ... by two ratios of one whole
+pub record Consecutive (before upto : Ratio) : Type 0 where
+  pub first : Prepared before
+  pub second : Prepared upto
+  pub same : before .whole ≡ upto .whole
+  pub lower : before .part ≤ upto .part
+
+abbrev pub partBy : Ratio → Ratio → ℕ → ℕ
+partBy before upto q = q * upto .part / upto .whole - q * before .part / before .whole
+
+-- Step 2, of the plant of row i
+abbrev pub guaranteeWith : (ℕ → ℕ) → List ℕ → List ℕ → List ℕ → ℕ → ℕ
+guaranteeWith part gs ls vs i = reducedBy (getD ls i 0) (getD vs i 0) (part (getD gs i 0))
+
+abbrev pub guaranteeOf : Modulation → List ℕ → List ℕ → List ℕ → ℕ → ℕ
+guaranteeOf m = guaranteeWith (partOf m)

@@ -1,0 +1,2 @@
+-- Laws of a field's start and length.
+pub mod Places

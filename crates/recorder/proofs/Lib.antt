@@ -1,4 +1,0 @@
--- Laws of the forms that cross to C.
-pub mod Kept
-pub mod Places
-pub mod KeptFiles

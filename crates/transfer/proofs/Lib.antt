@@ -1,0 +1,4 @@
+-- Laws of the transfer step.
+pub mod Served
+pub mod Same
+pub mod Asked

@@ -1,0 +1,151 @@
+-- Step 5: amounts served in turn, and the table that they make. Assumes nothing.
+use mathlib.Core.Path.{_≡_, refl, sym, ap, _∙_}
+use Prim.Native.Nat.{ℕ, zero, suc, _+_, _-_, _≤_}
+use native.Mathlib.Omega.{arith}
+use mathlib.Core.List.{List, [], _∷_}
+use lib.ListN.{length, getD}
+use Rattle.lists.specs.Lists.{sum}
+use Rattle.lists.specs.Columns.{rowwise, _⊖_, joined, transpose}
+use Rattle.lists.proofs.Sums.{at-le-sum}
+use Rattle.lists.proofs.Columns.{_!_, length-rowwise, at-⊕, at-⊖, sum-⊖, sum-ext, at-joined, transpose-at, transpose-sum}
+use Rattle.sharing.specs.Sharing.{Rule}
+use Rattle.transfer.specs.Transfer.{serve, transfer}
+use Rattle.sharing.specs.Laws.{Lawful}
+use Rattle.transfer.specs.Laws.{Served, Transfers, rowSum}
+use Rattle.sharing.proofs.Sharing.{adds-le}
+
+pub length-serve : {A : Type 0} (f : A → List ℕ → List ℕ) (ws : List ℕ) (ts : List A) → length (serve f ws ts) ≡ length ts
+unfolding serve
+length-serve f ws [] = refl
+length-serve f ws (t ∷ ts) = ap suc (length-serve f (ws ⊖ f t ws) ts)
+
+module _ {rule : Rule} (L : Lawful rule) where
+  -- what is still open falls by what was shared
+  pub fallen : (t : ℕ) (ws : List ℕ) → t ≤ sum ws → sum (ws ⊖ rule t ws) + t ≡ sum ws
+  fallen t ws h = let a = sum-⊖ ws (rule t ws) (L .bounded t ws h) in let b = adds-le L t ws h in omega arith
+
+  -- amounts in turn: each is shared whole, and none gives more than it has
+  pub serve-adds : (ws ts : List ℕ) → sum ts ≤ sum ws → (r : ℕ) → sum (getD (serve rule ws ts) r []) ≡ ts ! r
+  unfolding serve sum
+  serve-adds ws [] h r = refl
+  serve-adds ws (t ∷ ts) h zero = adds-le L t ws (omega arith)
+  serve-adds ws (t ∷ ts) h (suc r) = serve-adds (ws ⊖ rule t ws) ts (let a = fallen t ws (omega arith) in omega arith) r
+
+  pub serve-under : (ws ts : List ℕ) → sum ts ≤ sum ws → (i : ℕ) → joined (serve rule ws ts) ! i ≤ ws ! i
+  unfolding serve sum joined
+  serve-under ws [] h i = omega arith
+  serve-under ws (t ∷ ts) h i =
+      let k = serve-under (ws ⊖ rule t ws) ts (let a = fallen t ws (omega arith) in omega arith) i in
+      let a = at-⊕ (rule t ws) (joined (serve rule (ws ⊖ rule t ws) ts)) i in
+      let b = at-⊖ ws (rule t ws) i in
+      let c = L .bounded t ws (omega arith) i in
+      omega arith
+
+  -- a table of what n givers have left has n rows
+  rows-le : (ws ts : List ℕ) → length (transpose 0 (serve rule ws ts)) ≤ length ws
+  unfolding serve transpose
+  rows-le ws [] = omega arith
+  rows-le ws (t ∷ ts) =
+      let a = length-rowwise _∷_ 0 [] (rule t ws) (transpose 0 (serve rule (ws ⊖ rule t ws) ts)) in
+      let b = rows-le (ws ⊖ rule t ws) ts in
+      let c = length-rowwise _-_ 0 0 ws (rule t ws) in
+      let d = L .sized t ws in
+      omega arith
+
+  pub transfer-rows : (ws : List ℕ) (t : ℕ) (ts : List ℕ) → length (transfer rule ws (t ∷ ts)) ≡ length ws
+  unfolding transfer serve transpose
+  transfer-rows ws t ts =
+      let a = length-rowwise _∷_ 0 [] (rule t ws) (transpose 0 (serve rule (ws ⊖ rule t ws) ts)) in
+      let b = rows-le (ws ⊖ rule t ws) ts in
+      let c = length-rowwise _-_ 0 0 ws (rule t ws) in
+      let d = L .sized t ws in
+      omega arith
+
+  -- the promises of the table
+  pub served : (left need : List ℕ) → sum need ≤ sum left → Served rule left need
+  unfolding transfer
+  served left need h =
+      record {
+        received = λ r. column r ∙ serve-adds left need h r;
+        given = λ g. let a = transpose-sum cols g in let b = serve-under left need h g in omega arith;
+        apart = λ s e.
+            let a = transpose-at cols s s in
+            let b = at-le-sum (getD cols s []) s in
+            let c = serve-adds left need h s in
+            let d = at-joined cols s s in
+            let f = serve-under left need h s in
+            omega arith;
+      }
+    where
+      cols : List (List ℕ)
+      cols = serve rule left need
+
+      column : (r : ℕ) → sum (getD (transpose 0 (transpose 0 cols)) r []) ≡ sum (getD cols r [])
+      column r = sum-ext _ _ (λ g. transpose-at (transpose 0 cols) r g ∙ transpose-at cols g r)
+
+-- ---- lists of four
+pub four-is : {A : Type 0} (d : A) (xs : List A) → length xs ≡ 4 → xs ≡ getD xs 0 d ∷ getD xs 1 d ∷ getD xs 2 d ∷ getD xs 3 d ∷ []
+four-is d (x ∷ y ∷ z ∷ w ∷ []) e = refl
+four-is d [] e = absurd (omega arith)
+four-is d (x ∷ []) e = absurd (omega arith)
+four-is d (x ∷ y ∷ []) e = absurd (omega arith)
+four-is d (x ∷ y ∷ z ∷ []) e = absurd (omega arith)
+four-is d (x ∷ y ∷ z ∷ w ∷ v ∷ xs) e = absurd (omega arith)
+
+pub four-⊖ : (xs ys : List ℕ) → length xs ≡ 4 → length ys ≡ 4
+    → (xs ! 0 - ys ! 0) ∷ (xs ! 1 - ys ! 1) ∷ (xs ! 2 - ys ! 2) ∷ (xs ! 3 - ys ! 3) ∷ [] ≡ xs ⊖ ys
+unfolding rowwise
+four-⊖ xs ys p q = sym (rw (four-is 0 xs p, four-is 0 ys q))
+
+pub four-sum : (xs : List ℕ) → length xs ≡ 4 → xs ! 0 + xs ! 1 + xs ! 2 + xs ! 3 ≡ sum xs
+unfolding sum
+four-sum xs p = sym (ap sum (four-is 0 xs p) ∙ omega arith)
+
+-- the rows of a table of four by four
+pub row-sum : (table : List (List ℕ)) (g : ℕ) → length (getD table g []) ≡ 4 → rowSum table g ≡ sum (getD table g [])
+row-sum table g p = four-sum (getD table g []) p
+
+-- four columns of four as rows
+pub turned : (a b c d : List ℕ) → length a ≡ 4 → length b ≡ 4 → length c ≡ 4 → length d ≡ 4
+    → (a ! 0 ∷ b ! 0 ∷ c ! 0 ∷ d ! 0 ∷ []) ∷ (a ! 1 ∷ b ! 1 ∷ c ! 1 ∷ d ! 1 ∷ []) ∷ (a ! 2 ∷ b ! 2 ∷ c ! 2 ∷ d ! 2 ∷ []) ∷ (a ! 3 ∷ b ! 3 ∷ c ! 3 ∷ d ! 3 ∷ []) ∷ []
+    ≡ transpose 0 (a ∷ b ∷ c ∷ d ∷ [])
+unfolding transpose rowwise
+turned a b c d p q r s = sym (rw (four-is 0 a p, four-is 0 b q, four-is 0 c r, four-is 0 d s))
+
+-- ---- the step as the code takes it: four needs, each shared over what is left after those before
+module _ {rule : Rule} (L : Lawful rule) where
+  abbrev pub after1 : List ℕ → List ℕ → List ℕ
+  after1 left need = left ⊖ rule (need ! 0) left
+
+  abbrev pub after2 : List ℕ → List ℕ → List ℕ
+  after2 left need = after1 left need ⊖ rule (need ! 1) (after1 left need)
+
+  abbrev pub after3 : List ℕ → List ℕ → List ℕ
+  after3 left need = after2 left need ⊖ rule (need ! 2) (after2 left need)
+
+  -- each need is no more than what is then left
+  pub record Enough (left need : List ℕ) : Type 0 where
+    pub first : need ! 0 ≤ sum left
+    pub second : need ! 1 ≤ sum (after1 left need)
+    pub third : need ! 2 ≤ sum (after2 left need)
+    pub fourth : need ! 3 ≤ sum (after3 left need)
+    pub fewer1 : sum (after1 left need) ≤ sum left
+    pub fewer2 : sum (after2 left need) ≤ sum left
+    pub fewer3 : sum (after3 left need) ≤ sum left
+
+  pub enough : (left need : List ℕ) → length need ≡ 4 → sum need ≤ sum left → Enough left need
+  enough left need e h =
+      let s = four-sum need e in
+      let a = fallen L (need ! 0) left (omega arith) in
+      let b = fallen L (need ! 1) (after1 left need) (omega arith) in
+      let c = fallen L (need ! 2) (after2 left need) (omega arith) in
+      omega arith
+
+  pub four-needs : (left need : List ℕ) → length need ≡ 4
+      → transpose 0 (rule (need ! 0) left ∷ rule (need ! 1) (after1 left need) ∷ rule (need ! 2) (after2 left need) ∷ rule (need ! 3) (after3 left need) ∷ [])
+      ≡ transfer rule left need
+  unfolding transfer serve
+  four-needs left need e = sym (ap (λ n. transpose 0 (serve rule left n)) (four-is 0 need e))
+
+pub transfers : Transfers
+transfers = record { served = λ rule L left need h. served L left need h }

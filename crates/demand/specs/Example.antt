@@ -1,7 +1,6 @@
 -- Document 01's example month opened, settled and closed: the statement call writes the four lines that the paper shows, by computing. Assumes nothing.
 use mathlib.Core.Path.{_≡_, refl}
-use Prim.Native.Nat.{ℕ}
-use mathlib.Core.List.{List, [], _∷_, _++_, flatten}
+use mathlib.Core.List.{[], _∷_, _++_, flatten}
 use lib.ListN.{replicate}
 use lib.IntN.{pos}
 use Rattle.lists.specs.Lists.{sum, every, atMost}
@@ -13,7 +12,7 @@ use Rattle.transfer.specs.Transfer.{serve, transfer}
 use Rattle.blocks.specs.Portion.{portion}
 use Rattle.cover.specs.Cover.{own, ownParts, table, got, rest}
 use Rattle.hour.specs.Hour.{hourOf, modulated, guaranteed, submarkets, guarantees, secondary, covered, deficit, surplus, leftOver, rights, ownCover, coverGot, ownSecondary, secondaryGot, coverTable, secondaryTable, figure, nets, allotment, accounts}
-use Rattle.ledger.specs.Ledger.{Ledger, inBounds, zeros, added}
+use Rattle.ledger.specs.Ledger.{inBounds, zeros, added}
 use Rattle.figures.specs.Figures.{digits, figure as figureText, minus, signedFigure}
 use Rattle.statement.specs.Statement.{line, plantLine, plantLines, totalLine, statementText, roomFor}
 use Rattle.statement.specs.Worked.{plants, first, second, third, total}

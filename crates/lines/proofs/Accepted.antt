@@ -44,11 +44,6 @@ unfolding outcome
 number-itself zero = refl
 number-itself (suc n) = refl
 
-refused-as : {A : Type 0} (n : ℕ) (y : A) (f : ℕ → A) → (n ≡ 0 → ⊥) → outcome n y f ≡ f n
-unfolding outcome
-refused-as zero y f h = absurd (h refl)
-refused-as (suc n) y f h = refl
-
 module _ (line old : List ℕ) {answer : Line} {new : List ℕ} (e : _≡_ {A = ReadEnd} (record { answer = answer; figures = new }) (readCall line old)) where
   -- the number is that of the questions
   pub read-number : answer .number ≡ readNumber line (length old)
@@ -75,11 +70,6 @@ module _ (line old : List ℕ) {answer : Line} {new : List ℕ} (e : _≡_ {A = 
 
     pub read-yes : Read line (length old)
     read-yes = read line (length old) none
-
-  -- a refusal leaves the list as it was
-  pub read-kept : (answer .number ≡ 0 → ⊥) → new ≡ old
-  unfolding readCall
-  read-kept h = ap (λ (r : ReadEnd). r .figures) (e ∙ refused-as (readNumber line (length old)) _ _ (λ z. h (read-number ∙ z)))
 
 -- ---- how many fields each start has
 

@@ -1,17 +1,17 @@
 -- Laws of columns: figures row by row, sums, and the rows of a submarket. Assumes nothing.
 use mathlib.Core.Path.{_≡_, refl, sym, ap, _∙_, subst}
 use mathlib.Core.Logic.{_⊎_, inl, inr}
-use Prim.Native.Nat.{ℕ, zero, suc, _+_, _-_, min, max, _≤_, _<_}
+use Prim.Native.Nat.{ℕ, zero, suc, _+_, _-_, min, max, _≤_}
 use native.Mathlib.Omega.{arith}
-use native.Mathlib.Nat.{le-antisymm, le-refl, le-of-eq, zero-max, max-zero, suc-max-suc, suc-inj}
+use native.Mathlib.Nat.{le-antisymm, le-of-eq, zero-max, max-zero, suc-max-suc, suc-inj}
 use mathlib.Core.Bool.{Bool, true, false, cond}
 use mathlib.Core.List.{List, [], _∷_, _++_, map}
 use lib.Dec.{eqb}
 use borrow.Author.Tests.{ne-eqb}
 use lib.ListN.{length, getD, List·getD-map}
 use lib.Seq.{ext-getD}
-use Rattle.lists.specs.Lists.{sum, table, tableFrom}
-use Rattle.lists.specs.Columns.{rowwise, _⊕_, _⊖_, _⊓_, joined, inside, beyond, within, outside, four, at, totals, transpose}
+use Rattle.lists.specs.Lists.{sum, table}
+use Rattle.lists.specs.Columns.{rowwise, _⊕_, _⊖_, _⊓_, joined, inside, beyond, within, outside, at, totals, transpose}
 use Rattle.lists.proofs.Sums.{at-le-sum, length-table, getD-table}
 
 infixl 80 _!_

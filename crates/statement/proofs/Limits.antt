@@ -1,23 +1,23 @@
 -- What document 01's limits make of the statement's figures: sums that fit, and how long a statement can be. Assumes nothing.
-use mathlib.Core.Path.{_≡_, refl, sym, ap, subst, _∙_}
+use mathlib.Core.Path.{_≡_, sym, ap, subst, _∙_}
 use mathlib.Core.Bool.{true}
 use mathlib.Core.List.{List, [], _∷_, map}
-use Prim.Native.Nat.{ℕ, zero, suc, _+_, _-_, _*_, _^_, _≤_, _<_}
+use Prim.Native.Nat.{ℕ, zero, suc, _+_, _*_, _^_, _≤_, _<_}
 use native.Mathlib.Nat.{suc-mul, add-zero}
 use native.Mathlib.Omega.{arith}
 use lib.IntN.{ℤ, pos, negsuc, natAbs}
 use lib.ListN.{length, take, drop, getD, length-take}
-use lib.Seq.{getD-take, getD-drop}
+use lib.Seq.{getD-drop}
 use Rattle.lists.specs.Lists.{sum, Within}
 use Rattle.lists.specs.Columns.{four}
-use Rattle.figures.specs.Figures.{figure, minus, signedFigure, figureLength, signedFigureLength}
-use Rattle.figures.proofs.Decimal.{length-le, length-le-20, length-small}
+use Rattle.figures.specs.Figures.{minus, signedFigure, figureLength, signedFigureLength}
+use Rattle.figures.proofs.Decimal.{length-le, length-small}
 use Rattle.hour.specs.declared.Plant.{Plant}
 use Rattle.hour.specs.Table.{plantsOf}
 use Rattle.hour.proofs.Table.{length-plants}
 use Rattle.ledger.specs.Ledger.{Ledger, allottedIn, inBounds}
 use Rattle.ledger.proofs.Bounds.{bounded, column-small}
-use Rattle.statement.specs.Statement.{statementText, roomFor}
+use Rattle.statement.specs.Statement.{roomFor}
 use Rattle.statement.specs.Lengths.{fieldsLength, leadingLength, plantLineLength, plantLinesLength, totalLineLength, statementLength}
 use Rattle.statement.specs.Writing.{Stateable}
 use Rattle.statement.specs.Laws.{InLimits, Promised}
@@ -58,10 +58,6 @@ signed-le : (z : ℤ) → signedFigureLength z ≤ 1 + figureLength (natAbs z)
 unfolding signedFigureLength signedFigure minus figureLength
 signed-le (pos n) = omega arith
 signed-le (negsuc n) = omega arith
-
--- that of an `i64` takes at most 21 bytes
-pub signed-le-21 : (z : ℤ) → natAbs z ≤ 2 ^ 63 → signedFigureLength z ≤ 21
-signed-le-21 z h = omega (arith, signed-le z, length-le-20 (natAbs z) (omega arith))
 
 -- figures of at most d digits
 fields-le : (d : ℕ) (xs : List ℕ) → ((i : ℕ) → figureLength (getD xs i 0) ≤ d) → fieldsLength xs ≤ length xs * (d + 1)

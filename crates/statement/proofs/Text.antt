@@ -1,7 +1,7 @@
 -- Laws of the statement's text: its lines field by field, and how long they are. Assumes nothing.
 use mathlib.Core.Path.{_≡_, refl, sym, ap, ap₂, _∙_}
 use mathlib.Core.List.{List, [], _∷_, _++_, map, append-assoc}
-use Prim.Native.Nat.{ℕ, zero, suc, _+_, _-_, _*_, _≤_, _<_}
+use Prim.Native.Nat.{ℕ, _+_, _-_, _*_, _≤_, _<_}
 use native.Mathlib.Nat.{add-zero}
 use native.Mathlib.Numerals.{add-one}
 use native.Mathlib.Omega.{arith}
@@ -46,14 +46,6 @@ fields-more xs i h = rest-more fieldsText xs i 0 h
 pub fields-none : (xs : List ℕ) (i : ℕ) → length xs ≤ i → fieldsText (drop i xs) ≡ []
 unfolding fieldsText
 fields-none xs i h = rest-none fieldsText xs i h
-
-pub fields-length-more : (xs : List ℕ) (i : ℕ) → i < length xs → fieldsLength (drop i xs) ≡ figureLength (getD xs i 0) + 1 + fieldsLength (drop (i + 1) xs)
-unfolding fieldsLength
-fields-length-more xs i h = rest-more fieldsLength xs i 0 h
-
-pub fields-length-none : (xs : List ℕ) (i : ℕ) → length xs ≤ i → fieldsLength (drop i xs) ≡ 0
-unfolding fieldsLength
-fields-length-none xs i h = rest-none fieldsLength xs i h
 
 -- the parts of an A line, and of the T line
 pub plant-line-is : (p : Plant) (figures : List ℕ) (net money : ℤ)
@@ -148,17 +140,6 @@ length-plant-lines [] allotted accounts = refl
 length-plant-lines (p ∷ ps) allotted accounts =
     length-append (plantLine p (take 4 allotted) (getD accounts 0 (pos 0)) (getD accounts 1 (pos 0))) (plantLines ps (drop 4 allotted) (drop 2 accounts))
     ∙ ap₂ _+_ (length-plant-line p (take 4 allotted) (getD accounts 0 (pos 0)) (getD accounts 1 (pos 0))) (length-plant-lines ps (drop 4 allotted) (drop 2 accounts))
-
--- ... of the rows from i on
-module _ (ss ns al : List ℕ) (ac : List ℤ) where
-  pub lengths-all : length (linesFrom ss ns al ac 0) ≡ plantLinesLength (plantsOf ss ns [] [] []) al ac
-  lengths-all = ap length (sym (lines-all ss ns al ac)) ∙ length-plant-lines (plantsOf ss ns [] [] []) al ac
-
-  pub lengths-more : (i : ℕ) → i < length ss → length (linesFrom ss ns al ac i) ≡ length (rowLine ss ns al ac i) + length (linesFrom ss ns al ac (i + 1))
-  lengths-more i h = ap length (lines-more ss ns al ac i h) ∙ length-append (rowLine ss ns al ac i) (linesFrom ss ns al ac (i + 1))
-
-  pub lengths-none : (i : ℕ) → length ss ≤ i → length (linesFrom ss ns al ac i) ≡ 0
-  lengths-none i h = ap length (lines-none ss ns al ac i h)
 
 -- the statement takes as many bytes as its length says
 pub length-statement : (settled : ℕ) (plants : List Plant) (l : Ledger) → length (statementText settled plants l) ≡ statementLength settled plants l

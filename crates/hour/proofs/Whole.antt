@@ -11,7 +11,7 @@ use Rattle.sharing.specs.Sharing.{share}
 use Rattle.cover.specs.Cover.{table, rest, supplied}
 use Rattle.hour.specs.Hour.{Hour, hourOf, submarkets, guarantees, secondary, covered, deficit, surplus, leftOver, rights, coverTable, secondaryTable, nets}
 use Rattle.hour.specs.Table.{plantsOf}
-use Rattle.rows.specs.Steps.{coveredOf, rightsOf}
+use Rattle.rows.specs.Steps.{coveredBy, rightsBy}
 use Rattle.hour.specs.Work.{Workable}
 use Rattle.hour.proofs.Hour.{surplus-sum, covered-sum, rights-sum, leftOver-sum, surplus-le, leftOver-le, rows-b, rows-d, rows-r}
 use Rattle.hour.proofs.Allotment.{begun-small, first-small}
@@ -33,14 +33,14 @@ module _ {ss ns gs ls vs profile : List ℕ} {k : ℕ} {metered lent : List ℕ}
   unfolding hourOf secondary
   secondary-is e = ap (λ l. sum metered - sum l) e
 
-  pub covered-is : {a : List ℕ} → a ≡ guarantees h → coveredOf (sum metered) a ≡ covered h
+  pub covered-is : {a : List ℕ} → a ≡ guarantees h → coveredBy share (sum metered) a ≡ covered h
   unfolding hourOf covered
-  covered-is e = ap (coveredOf (sum metered)) e
+  covered-is e = ap (coveredBy share (sum metered)) e
 
   -- step 7
-  pub rights-are : {a : List ℕ} → a ≡ guarantees h → rightsOf (sum metered - sum a) a metered ≡ rights h
+  pub rights-are : {a : List ℕ} → a ≡ guarantees h → rightsBy share (sum metered - sum a) a metered ≡ rights h
   unfolding hourOf rights secondary
-  rights-are e = ap (λ l. rightsOf (sum metered - sum l) l metered) e
+  rights-are e = ap (λ l. rightsBy share (sum metered - sum l) l metered) e
 
   -- step 4
   pub deficit-is : {b : List ℕ} → b ≡ covered h → b ⊖ metered ≡ deficit h

@@ -5,8 +5,9 @@ ghost use lib.IntN.{subℕ};
 ghost use lib.ListN.{length};
 ghost use Rattle.lists.specs.Lists.{sum, Within};
 ghost use Rattle.lists.specs.Columns.{rowwise, _⊕_, _⊖_, _⊓_, inside, within, four, totals, byRow};
+ghost use Rattle.sharing.specs.Sharing.{share};
 ghost use Rattle.blocks.specs.Portion.{Standing};
-ghost use Rattle.rows.specs.Steps.{coveredOf, rightsOf};
+ghost use Rattle.rows.specs.Steps.{coveredBy, rightsBy};
 
 // max(0, x − y)
 fn over(x: u64, y: u64) -> u64
@@ -26,7 +27,7 @@ fn figure_in(s: u64, t: u64, x: u64) -> u64
 pub fn covered_into(generation: u64, whole: u64, a: &[u64], b: &mut [u64])
     requires { ⌜ (whole ≡ sum (now a)) × (sum (now a) < 2 ^ 62) ⌝ }
     requires { ⌜ length (now b) ≡ length (now a) ⌝ }
-    ensures { λ _. ⌜ now (b .exit) ≡ coveredOf generation (now (a .entry)) ⌝ }
+    ensures { λ _. ⌜ now (b .exit) ≡ coveredBy share generation (now (a .entry)) ⌝ }
 {
     if whole <= generation {
         lists::copy_into(a, b);
@@ -39,7 +40,7 @@ pub fn covered_into(generation: u64, whole: u64, a: &[u64], b: &mut [u64])
 pub fn rights_into(secondary: u64, whole: u64, a: &[u64], metered: &[u64], r: &mut [u64])
     requires { ⌜ (whole ≡ sum (now a)) × (sum (now a) < 2 ^ 62) ⌝ }
     requires { ⌜ (length (now metered) ≡ length (now a)) × (length (now r) ≡ length (now a)) ⌝ }
-    ensures { λ _. ⌜ now (r .exit) ≡ rightsOf secondary (now (a .entry)) (now (metered .entry)) ⌝ }
+    ensures { λ _. ⌜ now (r .exit) ≡ rightsBy share secondary (now (a .entry)) (now (metered .entry)) ⌝ }
 {
     if whole == 0 {
         lists::copy_into(metered, r);
@@ -113,8 +114,8 @@ pub fn start_into(submarket: &[u64], metered: &[u64], covered: &[u64], allotment
 pub fn share_out(metered: &[u64], whole: u64, a: &[u64], b: &mut [u64], r: &mut [u64]) -> u64
     requires { ⌜ (whole ≡ sum (now a)) × (sum (now a) < 2 ^ 62) × (sum (now metered) < 2 ^ 62) ⌝ }
     requires { ⌜ (length (now metered) ≡ length (now a)) × (length (now b) ≡ length (now a)) × (length (now r) ≡ length (now a)) ⌝ }
-    ensures { λ _. ⌜ now (b .exit) ≡ coveredOf (sum (now (metered .entry))) (now (a .entry)) ⌝ }
-    ensures { λ _. ⌜ now (r .exit) ≡ rightsOf (sum (now (metered .entry)) - sum (now (a .entry))) (now (a .entry)) (now (metered .entry)) ⌝ }
+    ensures { λ _. ⌜ now (b .exit) ≡ coveredBy share (sum (now (metered .entry))) (now (a .entry)) ⌝ }
+    ensures { λ _. ⌜ now (r .exit) ≡ rightsBy share (sum (now (metered .entry)) - sum (now (a .entry))) (now (a .entry)) (now (metered .entry)) ⌝ }
     ensures { λ z. ⌜ z ≡ sum (now (metered .entry)) - sum (now (a .entry)) ⌝ }
 {
     let generation = sharing::weights_total(metered);

@@ -9,7 +9,7 @@ use native.Mathlib.Omega.{arith}
 use lib.Dec.{eqb}
 use lib.ListN.{length, getD, List·getD-eq-default}
 use lib.Seq.{ext-getD}
-use Rattle.lists.specs.Lists.{sum, Within}
+use Rattle.lists.specs.Lists.{sum, most, Within}
 use Rattle.lists.specs.Columns.{rowwise, _⊕_, _⊖_, _⊓_, Below, inside, within, four, at, totals, byRow, column}
 use Rattle.lists.proofs.Columns.{_!_, at-⊕, at-⊖, at-⊓, sum-le, at-within, each, Sited, length-rowwise}
 use Rattle.lists.proofs.Sums.{at-le-sum}
@@ -40,7 +40,7 @@ min-right xs ys j = let a = at-⊓ xs ys j in omega arith
 pub fewer : (xs ys : List ℕ) → sum (xs ⊖ ys) ≤ sum xs
 fewer xs ys = sum-le (xs ⊖ ys) xs (λ i. let a = at-⊖ xs ys i in omega arith)
 
-pub room-first : (want figures : List ℕ) → Within figures (2 ^ 62) → sum want ≤ 2 * 10 ^ 9 → Room want figures
+pub room-first : (want figures : List ℕ) → Within figures (2 ^ 62) → sum want ≤ most → Room want figures
 room-first want figures w h = record { at = λ i j l. let a = w .at (4 * i + j) in let b = at-le-sum want i in omega arith }
 
 -- ---- figures that rose by the columns cs are the old ones with the columns added

@@ -5,7 +5,7 @@ use mathlib.Core.List.{List}
 use Prim.Native.Nat.{ℕ, _*_, _^_, _≤_}
 use lib.IntN.{ℤ, pos, natAbs}
 use lib.ListN.{length, getD}
-use Rattle.lists.specs.Lists.{Within}
+use Rattle.lists.specs.Lists.{most, Within}
 use Rattle.signed.specs.Figures.{accountsOf}
 use Rattle.ledger.specs.Ledger.{Ledger, inBounds, accountsWidth}
 
@@ -21,7 +21,7 @@ pub record Near (l : List ℤ) (bound : ℕ) : Type 0 where
 pub record Addable (figures more : List ℕ) : Type 0 where
   pub same : length figures ≡ length more
   pub ledger : Within figures (1488 * 10 ^ 9)
-  pub hour : Within more (2 * 10 ^ 9)
+  pub hour : Within more most
 
 -- accounts of the ledger, and a net for each row, to be added at a rate
 pub record Payable (accounts nets : List ℤ) (rate : ℕ) : Type 0 where
@@ -35,7 +35,7 @@ pub record Postable (l : Ledger) (allotment : List ℕ) (nets : List ℤ) (tarif
   pub inside : inBounds l ≡ true
   pub figures : length (l .allotted) ≡ length allotment
   pub rows : length (l .accounts) ≡ accountsWidth * length nets
-  pub allotmentSmall : Within allotment (2 * 10 ^ 9)
+  pub allotmentSmall : Within allotment most
   pub netsSmall : Near nets (4 * 10 ^ 9)
   pub tariffSmall : tariff ≤ 10000
 

@@ -3,7 +3,7 @@ ghost use mathlib.Core.Path.{_≡_};
 ghost use Prim.Native.Nat.{_+_, _-_, _*_, _^_, _≤_, _<_};
 ghost use lib.IntN.{subℕ};
 ghost use lib.ListN.{length};
-ghost use Rattle.lists.specs.Lists.{sum, Within};
+ghost use Rattle.lists.specs.Lists.{sum, most, Within};
 ghost use Rattle.lists.specs.Columns.{rowwise, _⊕_, _⊖_, _⊓_, inside, within, four, totals, byRow};
 ghost use Rattle.sharing.specs.Sharing.{share};
 ghost use Rattle.blocks.specs.Portion.{Standing};
@@ -64,7 +64,7 @@ pub fn deficits_into(covered: &[u64], metered: &[u64], d: &mut [u64])
 // Step 8: nets.
 pub fn nets_into(metered: &[u64], covered: &[u64], rights: &[u64], nets: &mut [i64])
     requires { ⌜ (length (now covered) ≡ length (now metered)) × (length (now rights) ≡ length (now metered)) × (length (now nets) ≡ length (now metered)) ⌝ }
-    requires { ⌜ Within (now metered) (2 * 10 ^ 9) × Within (now covered) (2 * 10 ^ 9) × Within (now rights) (2 * 10 ^ 9) ⌝ }
+    requires { ⌜ Within (now metered) most × Within (now covered) most × Within (now rights) most ⌝ }
     ensures { λ _. ⌜ now (nets .exit) ≡ rowwise subℕ 0 0 (now (metered .entry)) (now (covered .entry) ⊕ now (rights .entry)) ⌝ }
 {
     let mut i: usize = 0;
@@ -78,7 +78,7 @@ pub fn nets_into(metered: &[u64], covered: &[u64], rights: &[u64], nets: &mut [i
 pub fn surplus_by(submarket: &[u64], metered: &[u64], covered: &[u64]) -> [u64; 4]
     requires { ⌜ (length (now metered) ≡ length (now submarket)) × (length (now covered) ≡ length (now submarket)) ⌝ }
     requires { ⌜ Standing 0 (now submarket) ⌝ }
-    requires { ⌜ sum (now metered) ≤ 2 * 10 ^ 9 ⌝ }
+    requires { ⌜ sum (now metered) ≤ most ⌝ }
     ensures { λ r. ⌜ r ≡ totals (now (submarket .entry)) (now (metered .entry) ⊖ now (covered .entry)) ⌝ }
 {
     let mut surplus = [0u64; 4];
@@ -138,7 +138,7 @@ pub fn prepare(
     requires { ⌜ (length (now metered) ≡ length (now submarket)) × (length (now covered) ≡ length (now submarket)) × (length (now rights) ≡ length (now submarket)) ⌝ }
     requires { ⌜ (length (now d) ≡ length (now submarket)) × (length (now nets) ≡ length (now submarket)) × (length (now allotment) ≡ 4 * length (now submarket)) ⌝ }
     requires { ⌜ Standing 0 (now submarket) ⌝ }
-    requires { ⌜ (sum (now metered) ≤ 2 * 10 ^ 9) × (sum (now covered) ≤ 2 * 10 ^ 9) × (sum (now rights) ≤ 2 * 10 ^ 9) ⌝ }
+    requires { ⌜ (sum (now metered) ≤ most) × (sum (now covered) ≤ most) × (sum (now rights) ≤ most) ⌝ }
     ensures { λ _. ⌜ now (d .exit) ≡ now (covered .entry) ⊖ now (metered .entry) ⌝ }
     ensures { λ _. ⌜ now (nets .exit) ≡ rowwise subℕ 0 0 (now (metered .entry)) (now (covered .entry) ⊕ now (rights .entry)) ⌝ }
     ensures { λ _. ⌜ now (allotment .exit) ≡ byRow 0 (four (λ s. within s (now (submarket .entry)) (now (metered .entry) ⊓ now (covered .entry)))) ⌝ }

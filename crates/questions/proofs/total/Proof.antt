@@ -1,8 +1,9 @@
 -- `questions::total` meets its contract: 744 figures of at most 2 × 10^9 add up to less than 2^64. Assumes nothing.
 use borrow.Author.Needs.{needs}
-use Prim.Native.Nat.{_-_, _*_, _^_}
+use Prim.Native.Nat.{_-_}
 use native.Mathlib.Omega.{arith}
 use lib.ListN.{length}
+use Rattle.lists.specs.Lists.{most}
 use Rattle.lists.proofs.Loops.{Adding, loops, adding-le}
 use Rattle.lists.proofs.Questions.{sum-at-most}
 use Rattle.questions.proofs.total.Statement.{statement}
@@ -15,7 +16,7 @@ abbrev μ-loop : tie.MeasureT-loop
 μ-loop figures sum₀ i₀ sum i = length figures - i
 
 add-sum : tie.Need-add-sum Inv-loop μ-loop
-add-sum c = omega (arith, adding-le (c .before .before .loop .inv) (c .before .loop-test .taken), sum-at-most (c .before .before .before .args .figures .now) (2 * 10 ^ 9) (c .before .before .before .pre .1))
+add-sum c = omega (arith, adding-le (c .before .before .loop .inv) (c .before .loop-test .taken), sum-at-most (c .before .before .before .args .figures .now) most (c .before .before .before .pre .1))
 
 pub total-spec : {M : Type 1} → statement M
 total-spec =

@@ -1,7 +1,7 @@
 -- A line as it is written reads back. Assumes nothing.
 use mathlib.Core.Path.{_≡_, refl, ap, ap₂, _∙_}
 use mathlib.Core.Bool.{true}
-use mathlib.Core.List.{List, [], _∷_, _++_, map}
+use mathlib.Core.List.{List, [], _∷_, _++_, map, append-nil}
 use Prim.Native.Nat.{ℕ, suc, _-_, _^_, _≤_}
 use native.Mathlib.Omega.{arith}
 use borrow.Author.Tests.{le-leb, ne-eqb}
@@ -9,11 +9,11 @@ use lib.ListN.{length, drop, length-map}
 use Rattle.lists.specs.Lists.{Within, every}
 use Rattle.lists.specs.Questions.{firstNo}
 use Rattle.lists.proofs.Questions.{both, and-both, limits, in-range, accepted}
-use Rattle.figures.specs.Figures.{figure, value, isDigit, isFigure}
+use Rattle.figures.specs.Figures.{figure, commasBefore, byCommas, value, isDigit, isFigure}
 use Rattle.figures.proofs.Promised as figures
 use Rattle.lines.specs.Fields.{fields, toFirst}
 use Rattle.lines.specs.Reading.{startsWith, lineStart, startLength, lineFields, countFits, readNumber, ReadEnd, readCall}
-use Rattle.lines.specs.Laws.{figuresText, meterLine}
+use Rattle.lines.specs.Laws.{meterLine}
 
 -- ---- digits hold no comma
 
@@ -37,11 +37,11 @@ fields-behind (b ∷ bs) rest e =
 
 -- ---- the fields of figures written
 
-fields-figures : (x : ℕ) (xs : List ℕ) → fields (figuresText (x ∷ xs)) ≡ map figure (x ∷ xs)
-unfolding figuresText
-fields-figures x [] = fields-alone (figure x) (figures.digits-all x)
+fields-figures : (x : ℕ) (xs : List ℕ) → fields (byCommas (map figure (x ∷ xs))) ≡ map figure (x ∷ xs)
+unfolding byCommas commasBefore
+fields-figures x [] = ap fields (append-nil (figure x)) ∙ fields-alone (figure x) (figures.digits-all x)
 fields-figures x (y ∷ ys) =
-    fields-behind (figure x) (figuresText (y ∷ ys)) (figures.digits-all x) ∙ ap (λ (fs : List (List ℕ)). figure x ∷ fs) (fields-figures y ys)
+    fields-behind (figure x) (byCommas (map figure (y ∷ ys))) (figures.digits-all x) ∙ ap (λ (fs : List (List ℕ)). figure x ∷ fs) (fields-figures y ys)
 
 good-figures : (xs : List ℕ) → Within xs (10 ^ 19 - 1) → every isFigure (map figure xs) ≡ true
 unfolding every

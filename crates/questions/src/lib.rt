@@ -131,13 +131,7 @@ pub fn total(figures: &[u64]) -> u64
     requires { ⌜ (length (now figures) ≤ 744) × (atMost most (now figures) ≡ true) ⌝ }
     ensures { λ r. ⌜ r ≡ sum (now (figures .entry)) ⌝ }
 {
-    let mut sum: u64 = 0;
-    let mut i: usize = 0;
-    while i < figures.len() {
-        sum += figures[i];
-        i += 1;
-    }
-    sum
+    lists::sum_of(figures)
 }
 
 // 11: ledger lists of exactly 4P and 2P, for P in limits.

@@ -14,7 +14,7 @@ use Rattle.lists.proofs.Rows.{column-at, column-rowwise, length-column}
 use Rattle.signed.specs.Figures.{accountsOf, isWithin}
 use Rattle.signed.proofs.Accounts.{atRate, at-rate, rate-one, accounts-net, accounts-money}
 use Rattle.signed.proofs.View.{abs-times}
-use Rattle.ledger.specs.Ledger.{Ledger, inBounds, added, accountsWidth}
+use Rattle.ledger.specs.Ledger.{Ledger, inBounds, added, accountsWidth, kwhBound, moneyBound}
 use Rattle.ledger.specs.Posting.{Addable, Payable, Postable, hourFigures}
 use Rattle.ledger.proofs.Bounds.{bounded}
 
@@ -53,12 +53,12 @@ module _ {l : Ledger} {allotment : List ℕ} {nets : List ℤ} {tariff : ℕ} (h
 -- 19 of the ledger as it would be, column by column: the nets at the rate 1, the money at the tariff
 pub bounds-after : (l : Ledger) (allotment : List ℕ) (nets : List ℤ) (tariff : ℕ)
     → inBounds (added l (hourFigures allotment nets tariff))
-    ≡ (atMost (1488 * 10 ^ 9) (l .allotted ⊕ allotment)
-    && (every (isWithin (1488 * 10 ^ 9)) (column accountsWidth 0 (l .accounts) ⊕ℤ atRate 1 nets)
-    && every (isWithin (1488 * 10 ^ 13)) (column accountsWidth 1 (l .accounts) ⊕ℤ atRate tariff nets)))
+    ≡ (atMost kwhBound (l .allotted ⊕ allotment)
+    && (every (isWithin kwhBound) (column accountsWidth 0 (l .accounts) ⊕ℤ atRate 1 nets)
+    && every (isWithin moneyBound) (column accountsWidth 1 (l .accounts) ⊕ℤ atRate tariff nets)))
 unfolding inBounds added
 bounds-after l allotment nets tariff =
-    ap₂ (λ (xs ys : List ℤ). atMost (1488 * 10 ^ 9) (l .allotted ⊕ allotment) && (every (isWithin (1488 * 10 ^ 9)) xs && every (isWithin (1488 * 10 ^ 13)) ys))
+    ap₂ (λ (xs ys : List ℤ). atMost kwhBound (l .allotted ⊕ allotment) && (every (isWithin kwhBound) xs && every (isWithin moneyBound) ys))
     (columns 0 (accounts-net tariff nets ∙ sym (rate-one nets)))
     (columns 1 (accounts-money tariff nets))
   where

@@ -7,7 +7,7 @@ ghost use lib.ListN.{length, replicate};
 ghost use Rattle.lists.specs.Lists.{Within, atMost, every, sum, sumℤ};
 ghost use Rattle.lists.specs.Columns.{_⊕_, _⊕ℤ_, column, four};
 ghost use Rattle.signed.specs.Figures.{accountsOf, isWithin};
-ghost use Rattle.ledger.specs.Ledger.{accountsWidth, added, allottedWidth, inBounds};
+ghost use Rattle.ledger.specs.Ledger.{accountsWidth, added, allottedWidth, inBounds, kwhBound};
 ghost use Rattle.ledger.specs.Posting.{Addable, Payable, Postable, Summable, hourFigures};
 
 // Figures a plant: its allotted kWh in submarkets 1 to 4; its net and its money.
@@ -172,7 +172,7 @@ pub fn post(
 
 // The sum of the column that starts at `start`, of a list of `width` figures a row.
 fn column_sum(width: usize, start: usize, figures: &[u64]) -> u64
-    requires { ⌜ (0 < width) × (width ≤ 2 ^ 16) × (length (now figures) ≤ 2 ^ 16) × Within (now figures) (1488 * 10 ^ 9) ⌝ }
+    requires { ⌜ (0 < width) × (width ≤ 2 ^ 16) × (length (now figures) ≤ 2 ^ 16) × Within (now figures) kwhBound ⌝ }
     ensures { λ r. ⌜ r ≡ sum (column width start (now (figures .entry))) ⌝ }
 {
     let mut total: u64 = 0;
@@ -186,7 +186,7 @@ fn column_sum(width: usize, start: usize, figures: &[u64]) -> u64
 
 // The four column sums.
 pub fn column_sums(allotted: &[u64]) -> [u64; 4]
-    requires { ⌜ (length (now allotted) ≤ allottedWidth * 512) × Within (now allotted) (1488 * 10 ^ 9) ⌝ }
+    requires { ⌜ (length (now allotted) ≤ allottedWidth * 512) × Within (now allotted) kwhBound ⌝ }
     ensures { λ r. ⌜ r ≡ four (λ s. sum (column allottedWidth (s - 1) (now (allotted .entry)))) ⌝ }
 {
     [

@@ -4,6 +4,7 @@ use Prim.Native.Nat.{ℕ, _-_, _*_, _/_, _^_, _≤_, _<_}
 use mathlib.Core.List.{List}
 use lib.ListN.{take}
 use Rattle.lists.specs.Lists.{sum}
+use Rattle.sharing.specs.Sharing.{partBetween}
 use Rattle.modulation.specs.declared.Modulation.{Modulation}
 use Rattle.modulation.specs.declared.ratio.Ratio.{Ratio}
 use Rattle.modulation.specs.Guarantee.{guaranteeWith}
@@ -19,9 +20,9 @@ pub record Ordered (m : Modulation) : Type 0 where
   pub some : 0 < m .whole
   pub small : m .whole < 2 ^ 43
 
--- ... and the part of Q: floor(Q × Ck / W) − floor(Q × C(k−1) / W)
+-- ... and the part of Q
 abbrev pub partOf : Modulation → ℕ → ℕ
-partOf m q = q * m .upto / m .whole - q * m .before / m .whole
+partOf m q = partBetween q (m .whole) (m .before) (m .upto)
 
 -- ... by two ratios of one whole
 pub record Consecutive (before upto : Ratio) : Type 0 where

@@ -11,8 +11,8 @@ use Rattle.lists.specs.Lists.{atMost, every}
 use Rattle.lists.specs.Columns.{_⊕_, _⊕ℤ_, column}
 use Rattle.lists.proofs.Columns.{getD-rowwise, length-rowwise}
 use Rattle.lists.proofs.Rows.{column-at, column-rowwise, length-column}
-use Rattle.signed.specs.Figures.{accountsOf, isWithin}
-use Rattle.signed.proofs.Accounts.{atRate, at-rate, rate-one, accounts-net, accounts-money}
+use Rattle.signed.specs.Figures.{accountsOf, isWithin, atRate}
+use Rattle.signed.proofs.Accounts.{at-rate, rate-one, accounts-net, accounts-money}
 use Rattle.signed.proofs.View.{abs-times}
 use Rattle.ledger.specs.Ledger.{Ledger, inBounds, added, accountsWidth, kwhBound, moneyBound}
 use Rattle.ledger.specs.Posting.{Addable, Payable, Postable, hourFigures}

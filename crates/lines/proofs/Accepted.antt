@@ -9,13 +9,14 @@ use Rattle.lists.specs.Lists.{every}
 use Rattle.lists.specs.Questions.{outcome}
 use Rattle.lists.proofs.Questions.{asked, limits, accepted, outcome-part}
 use Rattle.figures.specs.Figures.{value, isFigure}
+use Rattle.lines.specs.Fields.{longest}
 use Rattle.lines.specs.Reading.{lineStart, lineFields, countFits, readNumber, ReadEnd, readCall}
 use Rattle.lines.specs.declared.reading.Line.{Line}
 
 -- ---- the questions answered yes
 
 pub record Read (line : List ℕ) (places : ℕ) : Type 0 where
-  pub short : length line ≤ 8192
+  pub short : length line ≤ longest
   pub started : 0 < lineStart line
   pub fits : countFits (lineStart line) (length (lineFields line)) ≡ true
   pub figures : every isFigure (lineFields line) ≡ true
@@ -30,7 +31,7 @@ read line places e =
     let d = asked _ _ _ tt (c .1) in
     let f = asked _ _ _ tt (d .1) in
     record {
-      short = leb-true (length line) 8192 (a .0);
+      short = leb-true (length line) longest (a .0);
       started = ltb-true 0 (lineStart line) (b .0);
       fits = c .0;
       figures = d .0;

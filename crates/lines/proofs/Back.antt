@@ -11,7 +11,7 @@ use Rattle.lists.specs.Questions.{firstNo}
 use Rattle.lists.proofs.Questions.{both, and-both, limits, in-range, accepted}
 use Rattle.figures.specs.Figures.{figure, commasBefore, byCommas, value, isDigit, isFigure}
 use Rattle.figures.proofs.Promised as figures
-use Rattle.lines.specs.Fields.{fields, toFirst}
+use Rattle.lines.specs.Fields.{longest, fields, toFirst}
 use Rattle.lines.specs.Reading.{startsWith, lineStart, startLength, lineFields, countFits, readNumber, ReadEnd, readCall}
 use Rattle.lines.specs.Laws.{meterLine}
 
@@ -72,13 +72,13 @@ module _ (period : ℕ) (metered : List ℕ) where
   fits some few = in-range 2 513 (length (period ∷ metered)) (omega arith) (omega arith)
 
   number : (places : ℕ) → Within (period ∷ metered) (10 ^ 19 - 1) → 1 ≤ length metered → length metered ≤ 512
-      → length (meterLine period metered) ≤ 8192 → length (period ∷ metered) ≤ places → readNumber (meterLine period metered) places ≡ 0
+      → length (meterLine period metered) ≤ longest → length (period ∷ metered) ≤ places → readNumber (meterLine period metered) places ≡ 0
   unfolding readNumber firstNo
   number places w some few short room =
-      rw (le-leb (length (meterLine period metered)) 8192 short, meter-starts, counted, fits some few, meter-fields, good-figures (period ∷ metered) w, le-leb (length (period ∷ metered)) places room)
+      rw (le-leb (length (meterLine period metered)) longest short, meter-starts, counted, fits some few, meter-fields, good-figures (period ∷ metered) w, le-leb (length (period ∷ metered)) places room)
 
   pub meter-back : (places : List ℕ) → Within (period ∷ metered) (10 ^ 19 - 1) → 1 ≤ length metered → length metered ≤ 512
-      → length (meterLine period metered) ≤ 8192 → length (period ∷ metered) ≤ length places
+      → length (meterLine period metered) ≤ longest → length (period ∷ metered) ≤ length places
       → readCall (meterLine period metered) places
       ≡ record { answer = record { number = 0; start = 4; fields = length (period ∷ metered) }; figures = (period ∷ metered) ++ drop (length (period ∷ metered)) places }
   unfolding readCall

@@ -1,7 +1,7 @@
 -- Rows stand by submarket: sharing over a submarket's rows alone is sharing over its block. Assumes nothing.
 use mathlib.Core.Path.{_≡_, refl, sym, ap, ap₂, _∙_}
 use mathlib.Core.Bool.{true, false}
-use Prim.Native.Nat.{ℕ, zero, suc, _+_, _-_, _≤_}
+use Prim.Native.Nat.{ℕ, zero, suc, _+_, _≤_}
 use native.Mathlib.Omega.{arith}
 use native.Mathlib.Nat.{suc-inj, add-zero, zero-add}
 use mathlib.Core.List.{List, [], _∷_, _++_, append-nil, append-assoc}

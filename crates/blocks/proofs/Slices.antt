@@ -7,7 +7,7 @@ use lib.ListN.{length, getD, take, drop, replicate, length-append, length-take, 
 use lib.Seq.{take-all, take-length, take-append-seam, drop-append-seam, drop-append-add, getD-take, getD-drop}
 use Rattle.lists.specs.Lists.{sum}
 use Rattle.lists.specs.Columns.{totals}
-use Rattle.lists.proofs.Columns.{_!_}
+use Rattle.lists.proofs.Columns.{_!_, below-four}
 use Rattle.sharing.specs.Laws.{Lawful}
 use Rattle.sharing.specs.Sharing.{Rule}
 use Rattle.blocks.specs.Portion.{portion}
@@ -98,11 +98,9 @@ module _ (starts : List ℕ) (n : ℕ) (up : Rising starts n) where
 
   pub end-below : (s : ℕ) → s < 4 → getD starts (s + 1) 0 ≤ n
   unfolding b c d
-  end-below zero h = let k = know in omega arith
-  end-below (suc zero) h = let k = know in omega arith
-  end-below (suc (suc zero)) h = let k = know in omega arith
-  end-below (suc (suc (suc zero))) h = let k = know in omega arith
-  end-below (suc (suc (suc (suc m)))) h = absurd (omega arith)
+  end-below =
+      let k = know in
+      below-four (λ s. getD starts (s + 1) 0 ≤ n) (omega arith) (omega arith) (omega arith) (omega arith)
 
   -- four lists one behind the other, as long as the blocks: the blocks are the lists
   module _ (x₁ x₂ x₃ x₄ : List ℕ) (l₁ : length x₁ ≡ blockRows starts 1) (l₂ : length x₂ ≡ blockRows starts 2)
@@ -154,11 +152,10 @@ module _ (starts : List ℕ) (n : ℕ) (up : Rising starts n) where
       are = pieces (rows 1) (rows 2) (rows 3) (rows 4) (length-replicate _ 1) (length-replicate _ 2) (length-replicate _ 3) (length-replicate _ 4)
 
       same : (s : ℕ) → s < 4 → (i : ℕ) → i < getD starts (s + 1) 0 - getD starts s 0 → getD (rows 1 ∷ rows 2 ∷ rows 3 ∷ rows 4 ∷ []) s [] ! i ≡ s + 1
-      same zero h i u = getD-replicate (blockRows starts 1) i 1 0 u
-      same (suc zero) h i u = getD-replicate (blockRows starts 2) i 2 0 u
-      same (suc (suc zero)) h i u = getD-replicate (blockRows starts 3) i 3 0 u
-      same (suc (suc (suc zero))) h i u = getD-replicate (blockRows starts 4) i 4 0 u
-      same (suc (suc (suc (suc m)))) h i u = absurd (omega arith)
+      same =
+          below-four (λ s. (i : ℕ) → i < getD starts (s + 1) 0 - getD starts s 0 → getD (rows 1 ∷ rows 2 ∷ rows 3 ∷ rows 4 ∷ []) s [] ! i ≡ s + 1)
+          (λ i u. getD-replicate (blockRows starts 1) i 1 0 u) (λ i u. getD-replicate (blockRows starts 2) i 2 0 u)
+          (λ i u. getD-replicate (blockRows starts 3) i 3 0 u) (λ i u. getD-replicate (blockRows starts 4) i 4 0 u)
 
   module _ (ws : List ℕ) (sized : length ws ≡ n) where
     same : length ws ≡ length (standingAt starts)
@@ -196,11 +193,7 @@ module _ (starts : List ℕ) (n : ℕ) (up : Rising starts n) where
         go : (s : ℕ) → s < 4
             → (sum (cut₁ in-blocks ws same) ∷ sum (cut₂ in-blocks ws same) ∷ sum (cut₃ in-blocks ws same) ∷ sum (cut₄ in-blocks ws same) ∷ []) ! s
             ≡ sum (getD (cut₁ in-blocks ws same ∷ cut₂ in-blocks ws same ∷ cut₃ in-blocks ws same ∷ cut₄ in-blocks ws same ∷ []) s [])
-        go zero h = refl
-        go (suc zero) h = refl
-        go (suc (suc zero)) h = refl
-        go (suc (suc (suc zero))) h = refl
-        go (suc (suc (suc (suc m)))) h = absurd (omega arith)
+        go = below-four _ refl refl refl refl
 
     module _ {rule : Rule} (L : Lawful rule) (amounts : List ℕ) (fits : (s : ℕ) → amounts ! s ≤ totals (standingAt starts) ws ! s) where
       pub portion-block : (s : ℕ) → s < 4 → block starts (portion rule (standingAt starts) amounts ws) s ≡ rule (amounts ! s) (block starts ws s)
@@ -219,8 +212,4 @@ module _ (starts : List ℕ) (n : ℕ) (up : Rising starts n) where
           long s h = L .sized (amounts ! s) (ws′ s) ∙ ap length (cut s h) ∙ block-length s h
 
           go : (s : ℕ) → s < 4 → getD (x 0 ∷ x 1 ∷ x 2 ∷ x 3 ∷ []) s [] ≡ x s
-          go zero h = refl
-          go (suc zero) h = refl
-          go (suc (suc zero)) h = refl
-          go (suc (suc (suc zero))) h = refl
-          go (suc (suc (suc (suc m)))) h = absurd (omega arith)
+          go = below-four (λ s. getD (x 0 ∷ x 1 ∷ x 2 ∷ x 3 ∷ []) s [] ≡ x s) refl refl refl refl

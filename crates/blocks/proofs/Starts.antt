@@ -8,7 +8,7 @@ use lib.Dec.{leb}
 use lib.ListN.{length, getD, drop, replicate, length-append, length-replicate}
 use borrow.Author.Needs.{needs}
 use borrow.Author.Tests.{leb-true, le-leb, lt-leb}
-use Rattle.lists.proofs.Columns.{_!_}
+use Rattle.lists.proofs.Columns.{_!_, below-four}
 use Rattle.lists.proofs.Loops.{rest-more, rest-none}
 use Rattle.blocks.specs.Portion.{Standing}
 use Rattle.blocks.specs.Blocks.{leading, blockStarts, standingAt, Rising}
@@ -149,11 +149,9 @@ module _ {subs : List ℕ} (B : Blocks subs) where
   rise = record { first = refl; next = up; last = all }
     where
       up : (s : ℕ) → s < 4 → getD (blockStarts subs) s 0 ≤ getD (blockStarts subs) (s + 1) 0
-      up zero h = omega arith
-      up (suc zero) h = let a = lead₁ in let b = lead₂ in omega arith
-      up (suc (suc zero)) h = let a = lead₂ in let b = lead₃ in omega arith
-      up (suc (suc (suc zero))) h = let a = lead₃ in let b = lead₄ in omega arith
-      up (suc (suc (suc (suc n)))) h = absurd (omega arith)
+      up =
+          let a = lead₁ in let b = lead₂ in let c = lead₃ in let d = lead₄ in
+          below-four (λ s. getD (blockStarts subs) s 0 ≤ getD (blockStarts subs) (s + 1) 0) (omega arith) (omega arith) (omega arith) (omega arith)
 
       all : leading 4 subs ≡ length subs
       all = lead₄ ∙ sym (ap length are ∙ simp (length-append, length-replicate) (omega arith))

@@ -1,11 +1,11 @@
 -- Steps 4 to 7 for any lawful rule of sharing: what four submarkets have meets what the plants want. Assumes nothing.
 use mathlib.Core.Path.{_≡_, refl, sym, _∙_, subst}
-use Prim.Native.Nat.{ℕ, zero, suc, _+_, _-_, _*_, _^_, min, _≤_}
+use Prim.Native.Nat.{ℕ, zero, suc, _+_, _-_, min, _≤_}
 use native.Mathlib.Omega.{arith}
 use mathlib.Core.List.{List, [], _∷_, map}
 use lib.ListN.{length, getD, length-map, List·getD-map}
 use Rattle.lists.specs.Columns.{_⊕_, _⊖_, _⊓_, joined, within, at, totals}
-use Rattle.lists.specs.Lists.{sum}
+use Rattle.lists.specs.Lists.{sum, most}
 use Rattle.lists.proofs.Columns.{_!_, length-rowwise, at-⊕, at-⊖, at-⊓, sum-⊕, sum-⊖, sum-ext, sum-tight, sum-joined, at-map-sum, joined-four, transpose-at, transpose-sum, within-⊖, within-nil, within-joined, Sited, sited-le, totals-sum, totals-ext, totals-is, at-totals, at-joined}
 use Rattle.lists.proofs.Sums.{at-le-sum}
 use Rattle.lists.proofs.Questions.{every-all, at-most-all}
@@ -332,13 +332,13 @@ module _ {rule : Rule} (L : Lawful rule) (subs have want : List ℕ) (four-have 
   row-under g = let a = row-is g in let b = sum-row g in let c = cols-under g in omega arith
 
   -- the transfer step's question is answered yes, where no more than 2 × 10^9 is at hand
-  pub transfer-asked : sum have ≤ 2 * 10 ^ 9 → Transferable (have ⊖ own rule subs have want) (totals subs want ⊖ own rule subs have want)
+  pub transfer-asked : sum have ≤ most → Transferable (have ⊖ own rule subs have want) (totals subs want ⊖ own rule subs have want)
   unfolding left open′ need apart
   transfer-asked limit =
       let a = sum-left in let b = sum-open in
       record {
-        leftHourly = at-most-all left (2 * 10 ^ 9) (λ i. let c = at-le-sum left i in omega arith);
-        needHourly = at-most-all open′ (2 * 10 ^ 9) (λ i. let c = at-le-sum open′ i in omega arith);
+        leftHourly = at-most-all left most (λ i. let c = at-le-sum left i in omega arith);
+        needHourly = at-most-all open′ most (λ i. let c = at-le-sum open′ i in omega arith);
         enough = fit-cols;
         noBoth =
             every-all (λ x. eqb x 0) (left ⊓ open′) 0 (λ j. eq-eqb ((left ⊓ open′) ! j) 0 (

@@ -7,11 +7,12 @@ use Prim.Native.Nat.{ℕ, zero, suc, _+_, _-_, _*_, _/_, _%_, _^_, _≤_, _<_, m
 use native.Mathlib.Nat.{add-sub-cancel, le-of-eq}
 use native.Mathlib.Omega.{arith}
 use lib.Dec.{eqb}
+use borrow.Author.Tests.{eqb-true, eqb-false, eq-eqb, ne-eqb}
 use lib.ListN.{length, getD, List·getD-eq-default}
 use lib.Seq.{ext-getD}
-use Rattle.lists.specs.Lists.{sum, Within}
+use Rattle.lists.specs.Lists.{sum, most, Within}
 use Rattle.lists.specs.Columns.{rowwise, _⊕_, _⊖_, _⊓_, Below, inside, within, four, at, totals, byRow, column}
-use Rattle.lists.proofs.Columns.{_!_, at-⊕, at-⊖, at-⊓, sum-le, at-within, each, Sited, length-rowwise}
+use Rattle.lists.proofs.Columns.{_!_, at-⊕, at-⊖, at-⊓, sum-le, at-within, below-four, each, Sited, length-rowwise}
 use Rattle.lists.proofs.Sums.{at-le-sum}
 use Rattle.lists.proofs.Rows.{Even, column-at, column-byRow, length-byRow}
 use Rattle.sharing.specs.Sharing.{share}
@@ -40,7 +41,7 @@ min-right xs ys j = let a = at-⊓ xs ys j in omega arith
 pub fewer : (xs ys : List ℕ) → sum (xs ⊖ ys) ≤ sum xs
 fewer xs ys = sum-le (xs ⊖ ys) xs (λ i. let a = at-⊖ xs ys i in omega arith)
 
-pub room-first : (want figures : List ℕ) → Within figures (2 ^ 62) → sum want ≤ 2 * 10 ^ 9 → Room want figures
+pub room-first : (want figures : List ℕ) → Within figures (2 ^ 62) → sum want ≤ most → Room want figures
 room-first want figures w h = record { at = λ i j l. let a = w .at (4 * i + j) in let b = at-le-sum want i in omega arith }
 
 -- ---- figures that rose by the columns cs are the old ones with the columns added
@@ -74,35 +75,14 @@ raised-all c cs n {before} {after} three even long r =
 
 -- ---- a row's own part goes to the column of its own submarket
 own-column : (t x j : ℕ) → 1 ≤ t → t ≤ 4 → j < 4 → cond (eqb j ((0 ∷ 1 ∷ 2 ∷ 3 ∷ []) ! (t - 1))) x 0 ≡ cond (eqb t (j + 1)) x 0
-own-column t x j l h k = each (λ t. cond (eqb j ((0 ∷ 1 ∷ 2 ∷ 3 ∷ []) ! (t - 1))) x 0 ≡ cond (eqb t (j + 1)) x 0) (go1 j k) (go2 j k) (go3 j k) (go4 j k) t l h
+own-column t x j l h k = ap (λ (b : Bool). cond b x 0) (ap (eqb j) (itself t l h) ∙ same (eqb j (t - 1)) refl)
   where
-    go1 : (j : ℕ) → j < 4 → cond (eqb j 0) x 0 ≡ cond (eqb 1 (j + 1)) x 0
-    go1 zero k = refl
-    go1 (suc zero) k = refl
-    go1 (suc (suc zero)) k = refl
-    go1 (suc (suc (suc zero))) k = refl
-    go1 (suc (suc (suc (suc j)))) k = absurd (omega arith)
+    itself : (t : ℕ) → 1 ≤ t → t ≤ 4 → (0 ∷ 1 ∷ 2 ∷ 3 ∷ []) ! (t - 1) ≡ t - 1
+    itself = each (λ t. (0 ∷ 1 ∷ 2 ∷ 3 ∷ []) ! (t - 1) ≡ t - 1) refl refl refl refl
 
-    go2 : (j : ℕ) → j < 4 → cond (eqb j 1) x 0 ≡ cond (eqb 2 (j + 1)) x 0
-    go2 zero k = refl
-    go2 (suc zero) k = refl
-    go2 (suc (suc zero)) k = refl
-    go2 (suc (suc (suc zero))) k = refl
-    go2 (suc (suc (suc (suc j)))) k = absurd (omega arith)
-
-    go3 : (j : ℕ) → j < 4 → cond (eqb j 2) x 0 ≡ cond (eqb 3 (j + 1)) x 0
-    go3 zero k = refl
-    go3 (suc zero) k = refl
-    go3 (suc (suc zero)) k = refl
-    go3 (suc (suc (suc zero))) k = refl
-    go3 (suc (suc (suc (suc j)))) k = absurd (omega arith)
-
-    go4 : (j : ℕ) → j < 4 → cond (eqb j 3) x 0 ≡ cond (eqb 4 (j + 1)) x 0
-    go4 zero k = refl
-    go4 (suc zero) k = refl
-    go4 (suc (suc zero)) k = refl
-    go4 (suc (suc (suc zero))) k = refl
-    go4 (suc (suc (suc (suc j)))) k = absurd (omega arith)
+    same : (b : Bool) → eqb j (t - 1) ≡ b → eqb j (t - 1) ≡ eqb t (j + 1)
+    same true e = e ∙ sym (eq-eqb t (j + 1) (let p = eqb-true j (t - 1) e in omega arith))
+    same false e = e ∙ sym (ne-eqb t (j + 1) (λ p. eqb-false j (t - 1) e (omega arith)))
 
 -- ---- what the rows have from each submarket in the end
 module _ (starts have want : List ℕ) (up : Rising starts (length want)) where
@@ -183,11 +163,7 @@ module _ (starts have want : List ℕ) (up : Rising starts (length want)) where
           none false false e = refl
 
   supplied-at : (j : ℕ) → j < 4 → getD (four (supplied share subs have want)) j [] ≡ supplied share subs have want (j + 1)
-  supplied-at zero h = refl
-  supplied-at (suc zero) h = refl
-  supplied-at (suc (suc zero)) h = refl
-  supplied-at (suc (suc (suc zero))) h = refl
-  supplied-at (suc (suc (suc (suc j)))) h = absurd (omega arith)
+  supplied-at = below-four (λ j. getD (four (supplied share subs have want)) j [] ≡ supplied share subs have want (j + 1)) refl refl refl refl
 
   supplied-sized : (s : ℕ) → length (supplied share subs have want s) ≡ length want
   unfolding supplied

@@ -13,7 +13,7 @@ use lib.Seq.{ext-getD, take-all, drop-cons, drop-drop, getD-drop}
 use borrow.Author.Tests.{eq-eqb, ne-eqb}
 use Rattle.lists.specs.Lists.{sum, Within}
 use Rattle.lists.specs.Columns.{_⊖_, Below, within, at, totals}
-use Rattle.lists.proofs.Columns.{_!_, at-⊖, at-totals, within-⊖, sum-⊖, length-rowwise}
+use Rattle.lists.proofs.Columns.{_!_, at-⊖, at-totals, within-⊖, sum-⊖, below-four, each, length-rowwise}
 use Rattle.sharing.specs.Sharing.{Rule, share}
 use Rattle.transfer.specs.Transfer.{serve}
 use Rattle.sharing.specs.Laws.{Lawful}
@@ -48,11 +48,9 @@ module _ {rule : Rule} (L : Lawful rule) (subs amounts want : List ℕ) (fits : 
           let b = portion-adds L subs amounts want as-fits s l h in omega arith
 
       go : (i : ℕ) → i < 4 → totals subs (want ⊖ p) ! i ≡ totals subs want ! i - amounts ! i
-      go zero h = e 1 (omega arith) (omega arith)
-      go (suc zero) h = e 2 (omega arith) (omega arith)
-      go (suc (suc zero)) h = e 3 (omega arith) (omega arith)
-      go (suc (suc (suc zero))) h = e 4 (omega arith) (omega arith)
-      go (suc (suc (suc (suc i)))) h = absurd (omega arith)
+      go =
+          below-four (λ i. totals subs (want ⊖ p) ! i ≡ totals subs want ! i - amounts ! i)
+          (e 1 (omega arith) (omega arith)) (e 2 (omega arith) (omega arith)) (e 3 (omega arith) (omega arith)) (e 4 (omega arith) (omega arith))
 
   -- and there is room for it
   pub room-kept : (columns : List ℕ) {figures after : List ℕ} → Room want figures → Raised (inColumns columns subs p) figures after → Room (want ⊖ p) after
@@ -85,11 +83,7 @@ serve-cons subs want row rows = refl
 -- whatever its submarket, a row is served from g
 all-from : (g t : ℕ) → t ≤ 4 → (g ∷ g ∷ g ∷ g ∷ []) ! (t - 1) ≡ g
 all-from g zero h = refl
-all-from g (suc zero) h = refl
-all-from g (suc (suc zero)) h = refl
-all-from g (suc (suc (suc zero))) h = refl
-all-from g (suc (suc (suc (suc zero)))) h = refl
-all-from g (suc (suc (suc (suc (suc t))))) h = absurd (omega arith)
+all-from g (suc t) h = each (λ t. (g ∷ g ∷ g ∷ g ∷ []) ! (t - 1) ≡ g) refl refl refl refl (suc t) (omega arith) h
 
 pub four-within : {a b c d : ℕ} → a < 4 → b < 4 → c < 4 → d < 4 → Within (a ∷ b ∷ c ∷ d ∷ []) 3
 four-within {a} {b} {c} {d} p q r s = record { at = go }

@@ -2,7 +2,7 @@
 ghost use mathlib.Core.Path.{_≡_};
 ghost use Prim.Native.Nat.{_-_, _*_, _^_, _≤_, _<_};
 ghost use lib.ListN.{length};
-ghost use Rattle.lists.specs.Lists.{sum, Within};
+ghost use Rattle.lists.specs.Lists.{sum, most, Within};
 ghost use Rattle.lists.specs.Columns.{_⊕_, _⊖_, _⊓_, Below, four, byRow, totals};
 ghost use Rattle.sharing.specs.Sharing.{share};
 ghost use Rattle.transfer.specs.Transfer.{serve};
@@ -75,7 +75,7 @@ pub fn meet(
     figures: &mut [u64],
 ) -> Met
     requires { ⌜ Rising starts (length (now want)) × (length (now want) ≤ length (now part)) × (4 * length (now want) ≤ length (now figures)) ⌝ }
-    requires { ⌜ (sum have ≤ 2 * 10 ^ 9) × (sum (now want) ≤ sum have) × Within (now figures) (2 ^ 62) ⌝ }
+    requires { ⌜ (sum have ≤ most) × (sum (now want) ≤ sum have) × Within (now figures) (2 ^ 62) ⌝ }
     ensures { λ r. ⌜ r .table .rows ≡ table share (standingAt starts) have (now (want .entry)) ⌝ }
     ensures { λ r. ⌜ r .rest ≡ rest share (standingAt starts) have (now (want .entry)) ⌝ }
     ensures { λ r. ⌜ now (figures .exit) ≡ now (figures .entry) ⊕ byRow 0 (four (supplied share (standingAt starts) have (now (want .entry)))) ⌝ }

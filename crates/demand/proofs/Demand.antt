@@ -23,7 +23,7 @@ use Rattle.month.specs.Questions.{isOpen, isBlank, openNumber, settleNumber, cl
 use Rattle.month.specs.Calls.{OpenEnd, openCall, SettleEnd, settleCall, balanceCall, closeCall}
 use Rattle.month.specs.Statement.{dueNumber, sizingNumber, statementNumber, statementOf, StatementEnd, statementCall}
 use Rattle.statement.specs.Statement.{statementText}
-use Rattle.demand.specs.Tally.{Call, opens, settles, balances, closes, State, number, next, after, entries, Tally, tallied, tally, hoursAfter, hours, summed, netOf, moneyOf, AddsUp, IsTally, Left, sent, Demand3, Demand3·holds, StatementOfTally, StatementOfTally·holds}
+use Rattle.demand.specs.Tally.{Call, opens, settles, balances, closes, State, number, next, after, entries, Tally, tallied, tally, hoursAfter, hours, summed, netOf, moneyOf, AddsUp, IsTally, Left, sent, Demand3·holds, StatementOfTally·holds}
 use Rattle.demand.proofs.Sums.{zeros-add-up, zeros-priced, posted-adds-up, posted-priced}
 use Rattle.month.proofs.Accepted.{Settles, settle-accepted, close-accepted, balance-accepted}
 
@@ -86,11 +86,6 @@ balance-number m l = number-is (λ (r : Balanced). r .number) (balanceNumber m l
 close-number : (m : Month) → closeCall m .number ≡ closeNumber m
 unfolding closeCall
 close-number m = number-is (λ (r : Ended). r .number) (closeNumber m) _ _ refl (λ k. refl)
-
-same : (n : ℕ) (s : State) → s ≡ outcome n s (λ _. s)
-unfolding outcome
-same zero s = refl
-same (suc n) s = refl
 
 next-is : (s : State) (c : Call) → next s c ≡ outcome (number s c) (changed s c) (λ _. s)
 unfolding next number changed

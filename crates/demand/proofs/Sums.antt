@@ -1,22 +1,22 @@
 -- The ledger adds up: from zeros, and hour by hour. Assumes nothing.
-use mathlib.Core.Path.{_≡_, refl, sym, ap, ap₂, _∙_, subst}
-use Prim.Native.Nat.{ℕ, zero, suc, _+_, _-_, _*_, _≤_, _<_}
+use mathlib.Core.Path.{_≡_, refl, sym, ap, ap₂, _∙_}
+use Prim.Native.Nat.{ℕ, _+_, _-_, _*_}
 use native.Mathlib.Omega.{arith}
 use mathlib.Core.List.{List, [], _∷_, map}
-use lib.IntN.{ℤ, pos, subℕ, _+ℤ_, _*ℤ_, zero-*ℤ}
-use lib.ListN.{length, getD, take, drop, replicate}
-use Rattle.lists.specs.Columns.{rowwise, _⊕_, _⊕ℤ_, column}
+use lib.IntN.{pos, subℕ, _+ℤ_, _*ℤ_, zero-*ℤ}
+use lib.ListN.{getD, take, drop, replicate}
+use Rattle.lists.specs.Columns.{_⊕_, _⊕ℤ_, column}
 use Rattle.lists.specs.Lists.{sum, sumℤ}
 use Rattle.lists.proofs.Columns.{_!_, getD-rowwise, at-⊕, sum-⊕, sum-nil}
 use Rattle.lists.proofs.Rows.{column-at, column-rowwise, row-sum, at-replicate}
 use Rattle.signed.proofs.Sums.{plus-sub, sumℤ-⊕, sumℤ-times, sumℤ-nil}
 use Rattle.signed.proofs.View.{plus-swap, times-plus}
-use Rattle.hour.specs.Hour.{Hour, submarkets, covered, rights, figure, nets, allotment, accounts}
+use Rattle.hour.specs.Hour.{Hour, covered, rights, figure, nets, allotment, accounts}
 use Rattle.hour.proofs.Hour.{Sound, column-sum}
 use Rattle.hour.proofs.Figures.{hour-column, hour-row, net-column, money-column, nets-sum, at-nets, net-at, money-at}
-use Rattle.ledger.specs.Ledger.{Ledger, zeros, added, allottedIn, netColumn, moneyColumn}
+use Rattle.ledger.specs.Ledger.{Ledger, zeros, added, netColumn, moneyColumn}
 use Rattle.month.specs.Questions.{posted}
-use Rattle.demand.specs.Tally.{total, meteredIn, meteredOfRow, coveredOfRow, rowAllotted, netOf, moneyOf, AddsUp}
+use Rattle.demand.specs.Tally.{total, rowAllotted, netOf, moneyOf, AddsUp}
 
 -- the four figures of row i, by columns
 row-is : (l : List ℕ) (i : ℕ) → sum (take 4 (drop (4 * i) l)) ≡ column 4 0 l ! i + column 4 1 l ! i + column 4 2 l ! i + column 4 3 l ! i

@@ -1,7 +1,6 @@
 -- Document 01's example month opened, settled and closed: the statement call writes the four lines that the paper shows, by computing. Assumes nothing.
 use mathlib.Core.Path.{_≡_, refl}
-use Prim.Native.Nat.{ℕ}
-use mathlib.Core.List.{List, [], _∷_, _++_, flatten}
+use mathlib.Core.List.{[], _∷_, _++_, flatten}
 use lib.ListN.{replicate}
 use lib.IntN.{pos}
 use Rattle.lists.specs.Lists.{sum, every, atMost}
@@ -13,8 +12,8 @@ use Rattle.transfer.specs.Transfer.{serve, transfer}
 use Rattle.blocks.specs.Portion.{portion}
 use Rattle.cover.specs.Cover.{own, ownParts, table, got, rest}
 use Rattle.hour.specs.Hour.{hourOf, modulated, guaranteed, submarkets, guarantees, secondary, covered, deficit, surplus, leftOver, rights, ownCover, coverGot, ownSecondary, secondaryGot, coverTable, secondaryTable, figure, nets, allotment, accounts}
-use Rattle.ledger.specs.Ledger.{Ledger, inBounds, zeros, added}
-use Rattle.figures.specs.Figures.{digits, figure as figureText, minus, signedFigure}
+use Rattle.ledger.specs.Ledger.{inBounds, zeros, added}
+use Rattle.figures.specs.Figures.{digits, figure as figureText, minus, signedFigure, commasBefore, byCommas}
 use Rattle.statement.specs.Statement.{line, plantLine, plantLines, totalLine, statementText, roomFor}
 use Rattle.statement.specs.Worked.{plants, first, second, third, total}
 use Rattle.month.specs.declared.Month.{Month}
@@ -49,5 +48,5 @@ pub record Example : Type 0 where
       }
 
 pub example : Example
-unfolding rowwise sum every atMost joined totals transpose flatten _then_ firstNo inRange outcome parts share serve transfer hourOf modulated guaranteed portion own ownParts table got rest submarkets guarantees secondary covered deficit surplus leftOver rights ownCover coverGot ownSecondary secondaryGot coverTable secondaryTable figure nets allotment accountsOf accounts column isWithin inBounds zeros added posted isOpen isBlank sizesNumber placed numbered rowNumber rowsNumber lengthsNumber tablesNumber openNumber ownNumber meteredNumber boundsNumber settleNumber closeNumber openCall settleCall closeCall digits figureText minus signedFigure line plantLine plantLines totalLine statementText roomFor dueNumber sizingNumber statementNumber statementOf statementCall
+unfolding rowwise sum every atMost joined totals transpose flatten _then_ firstNo inRange outcome parts share serve transfer hourOf modulated guaranteed portion own ownParts table got rest submarkets guarantees secondary covered deficit surplus leftOver rights ownCover coverGot ownSecondary secondaryGot coverTable secondaryTable figure nets allotment accountsOf accounts column isWithin inBounds zeros added posted isOpen isBlank sizesNumber placed numbered rowNumber rowsNumber lengthsNumber tablesNumber openNumber ownNumber meteredNumber boundsNumber settleNumber closeNumber openCall settleCall closeCall digits figureText minus signedFigure commasBefore byCommas line plantLine plantLines totalLine statementText roomFor dueNumber sizingNumber statementNumber statementOf statementCall
 example = record { stated = refl; short = refl }

@@ -16,7 +16,7 @@ use Rattle.month.specs.declared.Settled.{Settled}
 use Rattle.month.specs.declared.Stage.the-variants.{Blank}
 use Rattle.month.specs.Questions.{posted}
 use Rattle.month.specs.Calls.{openCall, settleCall, balanceCall, closeCall}
-use Rattle.month.specs.Statement.{StatementEnd, statementCall}
+use Rattle.month.specs.Statement.{statementCall}
 use Rattle.statement.specs.Statement.{statementText}
 
 -- A call, with what it takes besides the month and the ledger

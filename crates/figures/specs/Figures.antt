@@ -26,6 +26,15 @@ minus (negsuc n) = 45 ∷ []
 unfoldable pub signedFigure : ℤ → List ℕ
 signedFigure z = minus z ++ figure (natAbs z)
 
+-- fields, each with a comma (byte 44) before it; and fields parted by commas
+unfoldable pub commasBefore : List (List ℕ) → List ℕ
+commasBefore [] = []
+commasBefore (f ∷ fs) = (44 ∷ f) ++ commasBefore fs
+
+unfoldable pub byCommas : List (List ℕ) → List ℕ
+byCommas [] = []
+byCommas (f ∷ fs) = f ++ commasBefore fs
+
 -- how many bytes a figure takes
 unfoldable pub figureLength : ℕ → ℕ
 figureLength x = length (figure x)

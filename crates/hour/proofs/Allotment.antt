@@ -6,7 +6,7 @@ use Prim.Native.Nat.{ℕ, _+_, _-_, _*_, _^_, min, _≤_}
 use native.Mathlib.Omega.{arith}
 use lib.Dec.{eqb}
 use lib.ListN.{length}
-use Rattle.lists.specs.Lists.{sum, Within}
+use Rattle.lists.specs.Lists.{sum, most, Within}
 use Rattle.lists.specs.Columns.{_⊕_, _⊓_, inside, within, four, at, byRow}
 use Rattle.lists.proofs.Columns.{_!_, length-rowwise, at-⊕, at-⊓, at-within}
 use Rattle.sharing.specs.Laws.{Lawful}
@@ -108,8 +108,8 @@ module _ (h : Hour) (ok : Sound h) where
       z-sized = fours-sized second n second-sized
 
   -- no figure on the way is above the generation
-  module _ (small : sum (h .metered) ≤ 2 * 10 ^ 9) where
-    begun-le : (s : ℕ) → 1 ≤ s → s ≤ 4 → (i : ℕ) → begun s ! i + first s ! i ≤ 2 * 10 ^ 9
+  module _ (small : sum (h .metered) ≤ most) where
+    begun-le : (s : ℕ) → 1 ≤ s → s ≤ 4 → (i : ℕ) → begun s ! i + first s ! i ≤ most
     begun-le s l k i = let a = figure-is s l k i in let b = figure-le h ok s l k i in omega arith
 
     pub begun-small : Within (byRow 0 (four begun)) (2 ^ 62)

@@ -2,7 +2,7 @@
 use mathlib.Core.Path.{_≡_, refl, sym, ap, _∙_}
 use mathlib.Core.Logic.{_⊎_, inl, inr}
 use mathlib.Core.Bool.{Bool, true, false, cond}
-use Prim.Native.Nat.{ℕ, zero, _+_, _-_, min, _≤_, _<_}
+use Prim.Native.Nat.{ℕ, _+_, _-_, min, _≤_, _<_}
 use native.Mathlib.Omega.{arith}
 use native.Mathlib.Nat.{eq-zero-or-pos}
 use native.Mathlib.Decide.{decLt}
@@ -10,7 +10,7 @@ use mathlib.Core.List.{List, []}
 use lib.Dec.{leb, eqb}
 use lib.ListN.{length, length-map, List·getD-eq-default}
 use borrow.Author.Tests.{leb-true, leb-false, eqb-true, eqb-false}
-use Rattle.lists.specs.Columns.{rowwise, _⊕_, _⊖_, _⊓_, joined, inside, beyond, within, outside, four, at, totals}
+use Rattle.lists.specs.Columns.{rowwise, _⊕_, _⊖_, _⊓_, joined, inside, beyond, within, outside, at, totals}
 use Rattle.lists.specs.Lists.{sum}
 use Rattle.lists.proofs.Columns.{_!_, length-rowwise, at-⊕, at-⊖, at-⊓, each, sum-⊕, sum-le, sum-ext, sum-nil, joined-four, at-within, at-outside, within-ext, within-⊕, in-and-out, Sited, sited-le, quarters, totals-sum, at-totals}
 use Rattle.lists.proofs.Sums.{at-le-sum}

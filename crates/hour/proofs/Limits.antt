@@ -1,11 +1,11 @@
 -- An hour in limits is sound, and its sums stay far below 64 bits. Assumes nothing.
 use mathlib.Core.Path.{_≡_, sym, ap, _∙_}
 use mathlib.Core.List.{List}
-use Prim.Native.Nat.{ℕ, _-_, _*_, _^_, _≤_, _<_}
+use Prim.Native.Nat.{ℕ, _*_, _^_, _≤_, _<_}
 use native.Mathlib.Omega.{arith}
 use lib.IntN.{ℤ}
 use lib.ListN.{length}
-use Rattle.lists.specs.Lists.{sum, table}
+use Rattle.lists.specs.Lists.{sum, table, most}
 use Rattle.lists.proofs.Bounds.{sum-bound}
 use Rattle.sharing.proofs.Sharing.{share-lawful}
 use Rattle.modulation.specs.Guarantee.{guaranteeIn}
@@ -28,8 +28,8 @@ module _ {ss ns gs ls vs profile : List ℕ} {k : ℕ} {metered lent : List ℕ}
 
   pub profile-small : sum profile < 2 ^ 43
   profile-small =
-      let a = sum-bound profile (2 * 10 ^ 9) (w .hourly) in
-      let b : length profile * (2 * 10 ^ 9) ≤ 744 * (2 * 10 ^ 9) = omega (arith, w .periods) in
+      let a = sum-bound profile most (w .hourly) in
+      let b : length profile * most ≤ 744 * most = omega (arith, w .periods) in
       omega arith
 
   pub sound : Sound h

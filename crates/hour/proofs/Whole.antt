@@ -1,17 +1,17 @@
 -- What each step of the code leaves is what the hour's definitions say. Assumes nothing.
 use mathlib.Core.Path.{_≡_, sym, ap, ap₂, _∙_}
 use mathlib.Core.List.{List}
-use Prim.Native.Nat.{ℕ, _-_, _*_, _^_, _≤_}
+use Prim.Native.Nat.{ℕ, _-_, _^_, _≤_}
 use native.Mathlib.Omega.{arith}
 use lib.IntN.{ℤ, subℕ}
 use lib.ListN.{length}
-use Rattle.lists.specs.Lists.{sum, Within}
+use Rattle.lists.specs.Lists.{sum, most, Within}
 use Rattle.lists.specs.Columns.{rowwise, _⊕_, _⊖_, _⊓_, within, four, totals, byRow}
 use Rattle.sharing.specs.Sharing.{share}
 use Rattle.cover.specs.Cover.{table, rest, supplied}
 use Rattle.hour.specs.Hour.{Hour, hourOf, submarkets, guarantees, secondary, covered, deficit, surplus, leftOver, rights, coverTable, secondaryTable, nets}
 use Rattle.hour.specs.Table.{plantsOf}
-use Rattle.rows.specs.Steps.{coveredOf, rightsOf}
+use Rattle.rows.specs.Steps.{coveredBy, rightsBy}
 use Rattle.hour.specs.Work.{Workable}
 use Rattle.hour.proofs.Hour.{surplus-sum, covered-sum, rights-sum, leftOver-sum, surplus-le, leftOver-le, rows-b, rows-d, rows-r}
 use Rattle.hour.proofs.Allotment.{begun-small, first-small}
@@ -24,7 +24,7 @@ module _ {ss ns gs ls vs profile : List ℕ} {k : ℕ} {metered lent : List ℕ}
   pub subs-are : submarkets h ≡ ss
   subs-are = submarkets-columns ss ns gs ls vs profile metered k
 
-  generated : sum (h .metered) ≤ 2 * 10 ^ 9
+  generated : sum (h .metered) ≤ most
   unfolding hourOf
   generated = w .generation
 
@@ -33,14 +33,14 @@ module _ {ss ns gs ls vs profile : List ℕ} {k : ℕ} {metered lent : List ℕ}
   unfolding hourOf secondary
   secondary-is e = ap (λ l. sum metered - sum l) e
 
-  pub covered-is : {a : List ℕ} → a ≡ guarantees h → coveredOf (sum metered) a ≡ covered h
+  pub covered-is : {a : List ℕ} → a ≡ guarantees h → coveredBy share (sum metered) a ≡ covered h
   unfolding hourOf covered
-  covered-is e = ap (coveredOf (sum metered)) e
+  covered-is e = ap (coveredBy share (sum metered)) e
 
   -- step 7
-  pub rights-are : {a : List ℕ} → a ≡ guarantees h → rightsOf (sum metered - sum a) a metered ≡ rights h
+  pub rights-are : {a : List ℕ} → a ≡ guarantees h → rightsBy share (sum metered - sum a) a metered ≡ rights h
   unfolding hourOf rights secondary
-  rights-are e = ap (λ l. rightsOf (sum metered - sum l) l metered) e
+  rights-are e = ap (λ l. rightsBy share (sum metered - sum l) l metered) e
 
   -- step 4
   pub deficit-is : {b : List ℕ} → b ≡ covered h → b ⊖ metered ≡ deficit h
@@ -79,7 +79,7 @@ module _ {ss ns gs ls vs profile : List ℕ} {k : ℕ} {metered lent : List ℕ}
     unfolding hourOf
     deficit-met = rw (eu, ed) (let a = surplus-sum h (sound w) in let b = covered-sum h (sound w) in omega arith)
 
-    pub surplus-small : sum u ≤ 2 * 10 ^ 9
+    pub surplus-small : sum u ≤ most
     unfolding hourOf
     surplus-small = rw eu (let a = surplus-le h (sound w) in let b = w .generation in omega arith)
 
@@ -96,7 +96,7 @@ module _ {ss ns gs ls vs profile : List ℕ} {k : ℕ} {metered lent : List ℕ}
     pub rights-met : sum r ≤ sum v
     rights-met = rw (ev, er) (let a = leftOver-sum h (sound w) in omega arith)
 
-    pub left-small : sum v ≤ 2 * 10 ^ 9
+    pub left-small : sum v ≤ most
     unfolding hourOf
     left-small = rw ev (let a = leftOver-le h (sound w) in let b = w .generation in omega arith)
 
@@ -110,11 +110,11 @@ module _ {ss ns gs ls vs profile : List ℕ} {k : ℕ} {metered lent : List ℕ}
   pub deficit-sized : length (deficit h) ≡ length ss
   deficit-sized = rows-d h (sound w) ∙ ap length subs-are
 
-  pub covered-small : sum (covered h) ≤ 2 * 10 ^ 9
+  pub covered-small : sum (covered h) ≤ most
   unfolding hourOf
   covered-small = let a = covered-sum h (sound w) in let b = w .generation in omega arith
 
-  pub rights-small : sum (rights h) ≤ 2 * 10 ^ 9
+  pub rights-small : sum (rights h) ≤ most
   unfolding hourOf
   rights-small = let a = rights-sum h (sound w) in let b = covered-sum h (sound w) in let c = w .generation in omega arith
 

@@ -1,8 +1,6 @@
 -- "One hour": steps 1 to 8. Assumes nothing.
 use Prim.Native.Nat.{ℕ, _-_}
-use mathlib.Core.Bool.{cond}
 use mathlib.Core.List.{List, [], map}
-use lib.Dec.{leb, eqb}
 use lib.IntN.{ℤ, subℕ}
 use Rattle.lists.specs.Columns.{rowwise, _⊕_, _⊖_, _⊓_, within, outside, four, at, totals, byRow}
 use Rattle.lists.specs.Lists.{sum}
@@ -10,6 +8,7 @@ use Rattle.signed.specs.Figures.{accountsOf}
 use Rattle.sharing.specs.Sharing.{Rule, share}
 use Rattle.cover.specs.Cover.{ownParts, table, got, rest}
 use Rattle.modulation.specs.Guarantee.{modulatedIn, reducedBy}
+use Rattle.rows.specs.Steps.{coveredBy, rightsBy}
 use Rattle.hour.specs.declared.Plant.{Plant}
 
 -- What an hour is worked from. Steps 3 to 7 share by its rule, step 1 by running totals
@@ -38,12 +37,12 @@ guaranteed h p = reducedBy (p .loss) (p .availability) (modulated h p)
 unfoldable pub guarantees : Hour → List ℕ
 guarantees h = map (guaranteed h) (h .plants)
 
--- Step 3: secondary energy Z = Gt − A, zero where Gt is below A; covered guarantees b (004's adjusted guarantee)
+-- Step 3: secondary energy Z = Gt − A, zero where Gt is below A; covered guarantees b
 unfoldable pub secondary : Hour → ℕ
 secondary h = sum (h .metered) - sum (guarantees h)
 
 unfoldable pub covered : Hour → List ℕ
-covered h = cond (leb (sum (guarantees h)) (sum (h .metered))) (guarantees h) (h .rule (sum (h .metered)) (guarantees h))
+covered h = coveredBy (h .rule) (sum (h .metered)) (guarantees h)
 
 module _ (h : Hour) where
   -- Step 4: the surpluses summed by submarket (U), the deficits d of the plants, own cover
@@ -65,7 +64,7 @@ module _ (h : Hour) where
 
   -- Step 7: rights to secondary r, what is left to the submarkets V, own part, the second table
   unfoldable pub rights : List ℕ
-  rights = cond (eqb (sum (guarantees h)) 0) (h .metered) (h .rule (secondary h) (guarantees h))
+  rights = rightsBy (h .rule) (secondary h) (guarantees h) (h .metered)
 
   unfoldable pub leftOver : List ℕ
   leftOver = rest (h .rule) (submarkets h) surplus deficit

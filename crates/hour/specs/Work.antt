@@ -4,7 +4,7 @@ use mathlib.Core.Path.{_≡_}
 use mathlib.Core.List.{List}
 use lib.IntN.{ℤ}
 use lib.ListN.{length}
-use Rattle.lists.specs.Lists.{sum, Within}
+use Rattle.lists.specs.Lists.{sum, most, Within}
 use Rattle.blocks.specs.Portion.{Standing}
 use Rattle.hour.specs.Hour.{Hour, guarantees, secondary, coverTable, secondaryTable, nets, allotment}
 use Rattle.hour.specs.Table.{Equal}
@@ -20,13 +20,13 @@ pub record Workable (ss ns gs ls vs profile : List ℕ) (k : ℕ) (metered lent 
   pub guarantees : Within gs (10 ^ 12)
   pub losses : Within ls 1000000
   pub availabilities : Within vs 1000000
-  pub hourly : Within profile (2 * 10 ^ 9)
+  pub hourly : Within profile most
   pub periods : length profile ≤ 744
   pub whole : 0 < sum profile
   pub begun : 1 ≤ k
   pub due : k ≤ length profile
   pub meters : length metered ≡ length ss
-  pub generation : sum metered ≤ 2 * 10 ^ 9
+  pub generation : sum metered ≤ most
   pub figures : length lent ≡ 4 * length ss
   pub netRows : length lentNets ≡ length ss
 

@@ -2,7 +2,7 @@
 use mathlib.Core.Path.{_≡_, sym, ap, _∙_, subst}
 use mathlib.Core.Bool.{true}
 use mathlib.Core.List.{List}
-use Prim.Native.Nat.{ℕ, zero, suc, _+_, _-_, _*_, _^_, _≤_, _<_}
+use Prim.Native.Nat.{ℕ, zero, suc, _+_, _-_, _*_, _≤_, _<_}
 use native.Mathlib.Nat.{le-of-eq, mul-le-mul-right}
 use native.Mathlib.Omega.{arith}
 use lib.IntN.{ℤ, pos, natAbs}
@@ -14,15 +14,15 @@ use Rattle.lists.proofs.Rows.{column-at, at-replicate}
 use Rattle.lists.proofs.Strides.{by-columns, column-within}
 use Rattle.signed.specs.Figures.{isWithin}
 use Rattle.signed.proofs.Laws.{within-abs, abs-within}
-use Rattle.ledger.specs.Ledger.{Ledger, inBounds, allottedIn, netColumn, moneyColumn, zeros, allottedWidth, accountsWidth}
+use Rattle.ledger.specs.Ledger.{Ledger, inBounds, allottedIn, netColumn, moneyColumn, zeros, allottedWidth, accountsWidth, kwhBound, moneyBound}
 use Rattle.ledger.specs.Posting.{Near, Summable}
 
 -- every allotted figure; the net and the money of row i; every account, net or money
 pub record Bounded (l : Ledger) : Type 0 where
-  pub allotted : Within (l .allotted) (1488 * 10 ^ 9)
-  pub net : (i : ℕ) → natAbs (getD (l .accounts) (2 * i) (pos 0)) ≤ 1488 * 10 ^ 9
-  pub money : (i : ℕ) → natAbs (getD (l .accounts) (2 * i + 1) (pos 0)) ≤ 1488 * 10 ^ 13
-  pub accounts : Near (l .accounts) (1488 * 10 ^ 13)
+  pub allotted : Within (l .allotted) kwhBound
+  pub net : (i : ℕ) → natAbs (getD (l .accounts) (2 * i) (pos 0)) ≤ kwhBound
+  pub money : (i : ℕ) → natAbs (getD (l .accounts) (2 * i + 1) (pos 0)) ≤ moneyBound
+  pub accounts : Near (l .accounts) moneyBound
 
 -- the figures of a column within a bound, by row and by place
 module _ (b : ℕ) (j : ℕ) (l : List ℤ) (e : every (isWithin b) (column accountsWidth j l) ≡ true) where
@@ -36,19 +36,19 @@ module _ (b : ℕ) (j : ℕ) (l : List ℤ) (e : every (isWithin b) (column acco
 pub bounded : (l : Ledger) → inBounds l ≡ true → Bounded l
 unfolding inBounds
 bounded l e =
-    let p = both (atMost (1488 * 10 ^ 9) (l .allotted)) _ e in
-    let q = both (every (isWithin (1488 * 10 ^ 9)) (netColumn l)) _ (p .1) in
+    let p = both (atMost kwhBound (l .allotted)) _ e in
+    let q = both (every (isWithin kwhBound) (netColumn l)) _ (p .1) in
     record {
-      allotted = record { at = at-most-at (l .allotted) (1488 * 10 ^ 9) (p .0) };
-      net = λ i. place-near (1488 * 10 ^ 9) 0 (l .accounts) (q .0) i (2 * i) (omega arith);
-      money = λ i. place-near (1488 * 10 ^ 13) 1 (l .accounts) (q .1) i (2 * i + 1) (omega arith);
-      accounts = record { at = by-columns (λ z. natAbs z ≤ 1488 * 10 ^ 13) accountsWidth (omega arith) (l .accounts) (pos 0) (columns (q .0) (q .1)) };
+      allotted = record { at = at-most-at (l .allotted) kwhBound (p .0) };
+      net = λ i. place-near kwhBound 0 (l .accounts) (q .0) i (2 * i) (omega arith);
+      money = λ i. place-near moneyBound 1 (l .accounts) (q .1) i (2 * i + 1) (omega arith);
+      accounts = record { at = by-columns (λ z. natAbs z ≤ moneyBound) accountsWidth (omega arith) (l .accounts) (pos 0) (columns (q .0) (q .1)) };
     }
   where
-    columns : every (isWithin (1488 * 10 ^ 9)) (netColumn l) ≡ true → every (isWithin (1488 * 10 ^ 13)) (moneyColumn l) ≡ true
-        → (j : ℕ) → j < accountsWidth → (i : ℕ) → natAbs (getD (column accountsWidth j (l .accounts)) i (pos 0)) ≤ 1488 * 10 ^ 13
-    columns f g zero h i = let a = row-near (1488 * 10 ^ 9) 0 (l .accounts) f i in omega arith
-    columns f g (suc zero) h i = row-near (1488 * 10 ^ 13) 1 (l .accounts) g i
+    columns : every (isWithin kwhBound) (netColumn l) ≡ true → every (isWithin moneyBound) (moneyColumn l) ≡ true
+        → (j : ℕ) → j < accountsWidth → (i : ℕ) → natAbs (getD (column accountsWidth j (l .accounts)) i (pos 0)) ≤ moneyBound
+    columns f g zero h i = let a = row-near kwhBound 0 (l .accounts) f i in omega arith
+    columns f g (suc zero) h i = row-near moneyBound 1 (l .accounts) g i
     columns f g (suc (suc j)) h i = absurd (omega arith)
 
 -- the accounts of a ledger in bounds, of at most 512 plants
@@ -56,18 +56,18 @@ pub summable : (l : Ledger) → inBounds l ≡ true → length (l .accounts) ≤
 summable l e h = record { short = h; small = bounded l e .accounts }
 
 -- each column sum of a ledger in bounds, of at most 512 plants
-pub column-small : (l : Ledger) → inBounds l ≡ true → length (l .allotted) ≤ 2048 → (s : ℕ) → sum (allottedIn s l) ≤ 2048 * (1488 * 10 ^ 9)
+pub column-small : (l : Ledger) → inBounds l ≡ true → length (l .allotted) ≤ 2048 → (s : ℕ) → sum (allottedIn s l) ≤ 2048 * kwhBound
 column-small l e h s =
-    omega (arith, column-within allottedWidth (s - 1) (l .allotted) (1488 * 10 ^ 9) (bounded l e .allotted), mul-le-mul-right (1488 * 10 ^ 9) h)
+    omega (arith, column-within allottedWidth (s - 1) (l .allotted) kwhBound (bounded l e .allotted), mul-le-mul-right kwhBound h)
 
 -- zeros are in bounds
 pub zeros-in-bounds : (p : ℕ) → inBounds (zeros p) ≡ true
 unfolding inBounds zeros
 zeros-in-bounds p =
-    and-both _ _ (at-most-all (replicate (allottedWidth * p) 0) (1488 * 10 ^ 9) nil)
-    (and-both _ _ (near (1488 * 10 ^ 9) 0) (near (1488 * 10 ^ 13) 1))
+    and-both _ _ (at-most-all (replicate (allottedWidth * p) 0) kwhBound nil)
+    (and-both _ _ (near kwhBound 0) (near moneyBound 1))
   where
-    nil : (i : ℕ) → getD (replicate (allottedWidth * p) 0) i 0 ≤ 1488 * 10 ^ 9
+    nil : (i : ℕ) → getD (replicate (allottedWidth * p) 0) i 0 ≤ kwhBound
     nil i = omega (arith, le-of-eq (at-replicate (allottedWidth * p) i 0))
 
     near : (b j : ℕ) → every (isWithin b) (column accountsWidth j (replicate (accountsWidth * p) (pos 0))) ≡ true

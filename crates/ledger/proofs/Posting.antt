@@ -11,10 +11,10 @@ use Rattle.lists.specs.Lists.{atMost, every}
 use Rattle.lists.specs.Columns.{_⊕_, _⊕ℤ_, column}
 use Rattle.lists.proofs.Columns.{getD-rowwise, length-rowwise}
 use Rattle.lists.proofs.Rows.{column-at, column-rowwise, length-column}
-use Rattle.signed.specs.Figures.{accountsOf, isWithin}
-use Rattle.signed.proofs.Accounts.{atRate, at-rate, rate-one, length-accounts, accounts-net, accounts-money}
+use Rattle.signed.specs.Figures.{accountsOf, isWithin, atRate}
+use Rattle.signed.proofs.Accounts.{at-rate, rate-one, accounts-net, accounts-money}
 use Rattle.signed.proofs.View.{abs-times}
-use Rattle.ledger.specs.Ledger.{Ledger, inBounds, added, accountsWidth}
+use Rattle.ledger.specs.Ledger.{Ledger, inBounds, added, accountsWidth, kwhBound, moneyBound}
 use Rattle.ledger.specs.Posting.{Addable, Payable, Postable, hourFigures}
 use Rattle.ledger.proofs.Bounds.{bounded}
 
@@ -50,33 +50,15 @@ module _ {l : Ledger} {allotment : List ℕ} {nets : List ℤ} {tariff : ℕ} (h
   pub payable : (rate : ℕ) → rate ≤ 10000 → Payable (l .accounts) nets rate
   payable rate k = record { rows = h .rows; ledger = bounded l (h .inside) .accounts; hour = h .netsSmall; low = k }
 
-  -- the lists keep their lengths
-  abbrev next : Ledger
-  next = added l (hourFigures allotment nets tariff)
-
-  pub allotted-sized : length (next .allotted) ≡ length (l .allotted)
-  unfolding added
-  allotted-sized = length-rowwise _+_ 0 0 (l .allotted) allotment ∙ omega arith
-
-  pub accounts-sized : length (next .accounts) ≡ length (l .accounts)
-  unfolding added
-  accounts-sized =
-      length-rowwise _+ℤ_ (pos 0) (pos 0) (l .accounts) (accountsOf tariff nets) ∙ omega (arith, length-accounts tariff nets)
-
--- the two lists that a posting leaves make the ledger
-pub ledger-is : (l : Ledger) {allotted : List ℕ} {accounts : List ℤ} → allotted ≡ l .allotted → accounts ≡ l .accounts
-    → _≡_ {A = Ledger} (record { allotted = allotted; accounts = accounts }) l
-ledger-is l e f = ap₂ (λ (xs : List ℕ) (zs : List ℤ). record { allotted = xs; accounts = zs }) e f
-
 -- 19 of the ledger as it would be, column by column: the nets at the rate 1, the money at the tariff
 pub bounds-after : (l : Ledger) (allotment : List ℕ) (nets : List ℤ) (tariff : ℕ)
     → inBounds (added l (hourFigures allotment nets tariff))
-    ≡ (atMost (1488 * 10 ^ 9) (l .allotted ⊕ allotment)
-    && (every (isWithin (1488 * 10 ^ 9)) (column accountsWidth 0 (l .accounts) ⊕ℤ atRate 1 nets)
-    && every (isWithin (1488 * 10 ^ 13)) (column accountsWidth 1 (l .accounts) ⊕ℤ atRate tariff nets)))
+    ≡ (atMost kwhBound (l .allotted ⊕ allotment)
+    && (every (isWithin kwhBound) (column accountsWidth 0 (l .accounts) ⊕ℤ atRate 1 nets)
+    && every (isWithin moneyBound) (column accountsWidth 1 (l .accounts) ⊕ℤ atRate tariff nets)))
 unfolding inBounds added
 bounds-after l allotment nets tariff =
-    ap₂ (λ (xs ys : List ℤ). atMost (1488 * 10 ^ 9) (l .allotted ⊕ allotment) && (every (isWithin (1488 * 10 ^ 9)) xs && every (isWithin (1488 * 10 ^ 13)) ys))
+    ap₂ (λ (xs ys : List ℤ). atMost kwhBound (l .allotted ⊕ allotment) && (every (isWithin kwhBound) xs && every (isWithin moneyBound) ys))
     (columns 0 (accounts-net tariff nets ∙ sym (rate-one nets)))
     (columns 1 (accounts-money tariff nets))
   where

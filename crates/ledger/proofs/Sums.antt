@@ -10,13 +10,13 @@ use Rattle.lists.specs.Lists.{sumℤ}
 use Rattle.lists.specs.Columns.{column}
 use Rattle.lists.proofs.Strides.{stride, stride-more, stride-none}
 use Rattle.signed.proofs.View.{abs-plus}
-use Rattle.ledger.specs.Ledger.{accountsWidth}
+use Rattle.ledger.specs.Ledger.{accountsWidth, moneyBound}
 use Rattle.ledger.specs.Posting.{Summable}
 
 -- one figure within the bound for each row passed: at most 512 of them, whose sum is below 2 ^ 63
 pub record Totalling (start : ℕ) (l : List ℤ) (i : ℕ) (z : ℤ) : Type 0 where
   pub whole : z +ℤ sumℤ (column accountsWidth 0 (drop i l)) ≡ sumℤ (column accountsWidth start l)
-  pub small : accountsWidth * natAbs z ≤ 1488 * 10 ^ 13 * i
+  pub small : accountsWidth * natAbs z ≤ moneyBound * i
 
 split : (l : List ℤ) (i : ℕ) → i < length l → sumℤ (column accountsWidth 0 (drop i l)) ≡ getD l i (pos 0) +ℤ sumℤ (column accountsWidth 0 (drop (i + accountsWidth) l))
 unfolding sumℤ

@@ -30,11 +30,17 @@ netColumn l = column accountsWidth 0 (l .accounts)
 abbrev pub moneyColumn : Ledger → List ℤ
 moneyColumn l = column accountsWidth 1 (l .accounts)
 
--- every figure inside its bound: allotted kWh, net kWh, money in thousandths of a centavo
+-- no figure passes these: allotted and net kWh, and money in thousandths of a centavo
+abbrev pub kwhBound : ℕ
+kwhBound = 1488 * 10 ^ 9
+
+abbrev pub moneyBound : ℕ
+moneyBound = 1488 * 10 ^ 13
+
+-- every figure inside its bound
 unfoldable pub inBounds : Ledger → Bool
 inBounds l =
-    atMost (1488 * 10 ^ 9) (l .allotted)
-    && (every (isWithin (1488 * 10 ^ 9)) (netColumn l) && every (isWithin (1488 * 10 ^ 13)) (moneyColumn l))
+    atMost kwhBound (l .allotted) && (every (isWithin kwhBound) (netColumn l) && every (isWithin moneyBound) (moneyColumn l))
 
 -- all zeros, for p plants
 unfoldable pub zeros : ℕ → Ledger

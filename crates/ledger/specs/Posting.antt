@@ -5,9 +5,9 @@ use mathlib.Core.List.{List}
 use Prim.Native.Nat.{ℕ, _*_, _^_, _≤_}
 use lib.IntN.{ℤ, pos, natAbs}
 use lib.ListN.{length, getD}
-use Rattle.lists.specs.Lists.{Within}
+use Rattle.lists.specs.Lists.{most, Within}
 use Rattle.signed.specs.Figures.{accountsOf}
-use Rattle.ledger.specs.Ledger.{Ledger, inBounds, accountsWidth}
+use Rattle.ledger.specs.Ledger.{Ledger, inBounds, accountsWidth, kwhBound, moneyBound}
 
 -- an hour's figures: each row's allotted kWh, its net, and net × TEO as money
 abbrev pub hourFigures : List ℕ → List ℤ → ℕ → Ledger
@@ -20,13 +20,13 @@ pub record Near (l : List ℤ) (bound : ℕ) : Type 0 where
 -- figures of the ledger, and as many of an hour to be added to them
 pub record Addable (figures more : List ℕ) : Type 0 where
   pub same : length figures ≡ length more
-  pub ledger : Within figures (1488 * 10 ^ 9)
-  pub hour : Within more (2 * 10 ^ 9)
+  pub ledger : Within figures kwhBound
+  pub hour : Within more most
 
 -- accounts of the ledger, and a net for each row, to be added at a rate
 pub record Payable (accounts nets : List ℤ) (rate : ℕ) : Type 0 where
   pub rows : length accounts ≡ accountsWidth * length nets
-  pub ledger : Near accounts (1488 * 10 ^ 13)
+  pub ledger : Near accounts moneyBound
   pub hour : Near nets (4 * 10 ^ 9)
   pub low : rate ≤ 10000
 
@@ -35,11 +35,11 @@ pub record Postable (l : Ledger) (allotment : List ℕ) (nets : List ℤ) (tarif
   pub inside : inBounds l ≡ true
   pub figures : length (l .allotted) ≡ length allotment
   pub rows : length (l .accounts) ≡ accountsWidth * length nets
-  pub allotmentSmall : Within allotment (2 * 10 ^ 9)
+  pub allotmentSmall : Within allotment most
   pub netsSmall : Near nets (4 * 10 ^ 9)
   pub tariffSmall : tariff ≤ 10000
 
 -- accounts whose columns may be added up: at most 512 rows, each figure within the bound of money
 pub record Summable (accounts : List ℤ) : Type 0 where
   pub short : length accounts ≤ accountsWidth * 512
-  pub small : Near accounts (1488 * 10 ^ 13)
+  pub small : Near accounts moneyBound

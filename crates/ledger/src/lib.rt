@@ -1,13 +1,12 @@
 // The ledger (document 01, 'Plants, profile, ledger'): bounds, posting, columns and their sums.
 ghost use mathlib.Core.Path.{_≡_};
-ghost use mathlib.Core.List.{map};
 ghost use Prim.Native.Nat.{_+_, _-_, _*_, _^_, _≤_, _<_};
-ghost use lib.IntN.{pos, _*ℤ_};
+ghost use lib.IntN.{pos};
 ghost use lib.ListN.{length, replicate};
 ghost use Rattle.lists.specs.Lists.{Within, atMost, every, sum, sumℤ};
 ghost use Rattle.lists.specs.Columns.{_⊕_, _⊕ℤ_, column, four};
-ghost use Rattle.signed.specs.Figures.{accountsOf, isWithin};
-ghost use Rattle.ledger.specs.Ledger.{accountsWidth, added, allottedWidth, inBounds};
+ghost use Rattle.signed.specs.Figures.{accountsOf, atRate, isWithin};
+ghost use Rattle.ledger.specs.Ledger.{accountsWidth, added, allottedWidth, inBounds, kwhBound};
 ghost use Rattle.ledger.specs.Posting.{Addable, Payable, Postable, Summable, hourFigures};
 
 // Figures a plant: its allotted kWh in submarkets 1 to 4; its net and its money.
@@ -105,7 +104,7 @@ fn add_figures(figures: &mut [u64], more: &[u64])
 // Is every figure of the column that starts at `start` within a bound of zero, with each row's net added at a rate?
 fn column_within_after(bound: u64, start: usize, accounts: &[i64], nets: &[i64], rate: u64) -> bool
     requires { ⌜ (bound < 2 ^ 63) × (start < accountsWidth) × Payable (now accounts) (now nets) rate ⌝ }
-    ensures { λ r. ⌜ r ≡ every (isWithin bound) (column accountsWidth start (now (accounts .entry)) ⊕ℤ map (λ z. z *ℤ pos rate) (now (nets .entry))) ⌝ }
+    ensures { λ r. ⌜ r ≡ every (isWithin bound) (column accountsWidth start (now (accounts .entry)) ⊕ℤ atRate rate (now (nets .entry))) ⌝ }
 {
     let mut i: usize = 0;
     while i < nets.len() {
@@ -172,7 +171,7 @@ pub fn post(
 
 // The sum of the column that starts at `start`, of a list of `width` figures a row.
 fn column_sum(width: usize, start: usize, figures: &[u64]) -> u64
-    requires { ⌜ (0 < width) × (width ≤ 2 ^ 16) × (length (now figures) ≤ 2 ^ 16) × Within (now figures) (1488 * 10 ^ 9) ⌝ }
+    requires { ⌜ (0 < width) × (width ≤ 2 ^ 16) × (length (now figures) ≤ 2 ^ 16) × Within (now figures) kwhBound ⌝ }
     ensures { λ r. ⌜ r ≡ sum (column width start (now (figures .entry))) ⌝ }
 {
     let mut total: u64 = 0;
@@ -186,7 +185,7 @@ fn column_sum(width: usize, start: usize, figures: &[u64]) -> u64
 
 // The four column sums.
 pub fn column_sums(allotted: &[u64]) -> [u64; 4]
-    requires { ⌜ (length (now allotted) ≤ allottedWidth * 512) × Within (now allotted) (1488 * 10 ^ 9) ⌝ }
+    requires { ⌜ (length (now allotted) ≤ allottedWidth * 512) × Within (now allotted) kwhBound ⌝ }
     ensures { λ r. ⌜ r ≡ four (λ s. sum (column allottedWidth (s - 1) (now (allotted .entry)))) ⌝ }
 {
     [

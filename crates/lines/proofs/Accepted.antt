@@ -9,13 +9,14 @@ use Rattle.lists.specs.Lists.{every}
 use Rattle.lists.specs.Questions.{outcome}
 use Rattle.lists.proofs.Questions.{asked, limits, accepted, outcome-part}
 use Rattle.figures.specs.Figures.{value, isFigure}
+use Rattle.lines.specs.Fields.{longest}
 use Rattle.lines.specs.Reading.{lineStart, lineFields, countFits, readNumber, ReadEnd, readCall}
 use Rattle.lines.specs.declared.reading.Line.{Line}
 
 -- ---- the questions answered yes
 
 pub record Read (line : List ℕ) (places : ℕ) : Type 0 where
-  pub short : length line ≤ 8192
+  pub short : length line ≤ longest
   pub started : 0 < lineStart line
   pub fits : countFits (lineStart line) (length (lineFields line)) ≡ true
   pub figures : every isFigure (lineFields line) ≡ true
@@ -30,7 +31,7 @@ read line places e =
     let d = asked _ _ _ tt (c .1) in
     let f = asked _ _ _ tt (d .1) in
     record {
-      short = leb-true (length line) 8192 (a .0);
+      short = leb-true (length line) longest (a .0);
       started = ltb-true 0 (lineStart line) (b .0);
       fits = c .0;
       figures = d .0;
@@ -43,11 +44,6 @@ number-itself : (n : ℕ) → outcome n 0 (λ k. k) ≡ n
 unfolding outcome
 number-itself zero = refl
 number-itself (suc n) = refl
-
-refused-as : {A : Type 0} (n : ℕ) (y : A) (f : ℕ → A) → (n ≡ 0 → ⊥) → outcome n y f ≡ f n
-unfolding outcome
-refused-as zero y f h = absurd (h refl)
-refused-as (suc n) y f h = refl
 
 module _ (line old : List ℕ) {answer : Line} {new : List ℕ} (e : _≡_ {A = ReadEnd} (record { answer = answer; figures = new }) (readCall line old)) where
   -- the number is that of the questions
@@ -75,11 +71,6 @@ module _ (line old : List ℕ) {answer : Line} {new : List ℕ} (e : _≡_ {A = 
 
     pub read-yes : Read line (length old)
     read-yes = read line (length old) none
-
-  -- a refusal leaves the list as it was
-  pub read-kept : (answer .number ≡ 0 → ⊥) → new ≡ old
-  unfolding readCall
-  read-kept h = ap (λ (r : ReadEnd). r .figures) (e ∙ refused-as (readNumber line (length old)) _ _ (λ z. h (read-number ∙ z)))
 
 -- ---- how many fields each start has
 

@@ -1,7 +1,7 @@
 -- A line as it is written reads back. Assumes nothing.
 use mathlib.Core.Path.{_≡_, refl, ap, ap₂, _∙_}
 use mathlib.Core.Bool.{true}
-use mathlib.Core.List.{List, [], _∷_, _++_, map}
+use mathlib.Core.List.{List, [], _∷_, _++_, map, append-nil}
 use Prim.Native.Nat.{ℕ, suc, _-_, _^_, _≤_}
 use native.Mathlib.Omega.{arith}
 use borrow.Author.Tests.{le-leb, ne-eqb}
@@ -9,11 +9,11 @@ use lib.ListN.{length, drop, length-map}
 use Rattle.lists.specs.Lists.{Within, every}
 use Rattle.lists.specs.Questions.{firstNo}
 use Rattle.lists.proofs.Questions.{both, and-both, limits, in-range, accepted}
-use Rattle.figures.specs.Figures.{figure, value, isDigit, isFigure}
+use Rattle.figures.specs.Figures.{figure, commasBefore, byCommas, value, isDigit, isFigure}
 use Rattle.figures.proofs.Promised as figures
-use Rattle.lines.specs.Fields.{fields, toFirst}
+use Rattle.lines.specs.Fields.{longest, fields, toFirst}
 use Rattle.lines.specs.Reading.{startsWith, lineStart, startLength, lineFields, countFits, readNumber, ReadEnd, readCall}
-use Rattle.lines.specs.Laws.{figuresText, meterLine}
+use Rattle.lines.specs.Laws.{meterLine}
 
 -- ---- digits hold no comma
 
@@ -37,11 +37,11 @@ fields-behind (b ∷ bs) rest e =
 
 -- ---- the fields of figures written
 
-fields-figures : (x : ℕ) (xs : List ℕ) → fields (figuresText (x ∷ xs)) ≡ map figure (x ∷ xs)
-unfolding figuresText
-fields-figures x [] = fields-alone (figure x) (figures.digits-all x)
+fields-figures : (x : ℕ) (xs : List ℕ) → fields (byCommas (map figure (x ∷ xs))) ≡ map figure (x ∷ xs)
+unfolding byCommas commasBefore
+fields-figures x [] = ap fields (append-nil (figure x)) ∙ fields-alone (figure x) (figures.digits-all x)
 fields-figures x (y ∷ ys) =
-    fields-behind (figure x) (figuresText (y ∷ ys)) (figures.digits-all x) ∙ ap (λ (fs : List (List ℕ)). figure x ∷ fs) (fields-figures y ys)
+    fields-behind (figure x) (byCommas (map figure (y ∷ ys))) (figures.digits-all x) ∙ ap (λ (fs : List (List ℕ)). figure x ∷ fs) (fields-figures y ys)
 
 good-figures : (xs : List ℕ) → Within xs (10 ^ 19 - 1) → every isFigure (map figure xs) ≡ true
 unfolding every
@@ -72,13 +72,13 @@ module _ (period : ℕ) (metered : List ℕ) where
   fits some few = in-range 2 513 (length (period ∷ metered)) (omega arith) (omega arith)
 
   number : (places : ℕ) → Within (period ∷ metered) (10 ^ 19 - 1) → 1 ≤ length metered → length metered ≤ 512
-      → length (meterLine period metered) ≤ 8192 → length (period ∷ metered) ≤ places → readNumber (meterLine period metered) places ≡ 0
+      → length (meterLine period metered) ≤ longest → length (period ∷ metered) ≤ places → readNumber (meterLine period metered) places ≡ 0
   unfolding readNumber firstNo
   number places w some few short room =
-      rw (le-leb (length (meterLine period metered)) 8192 short, meter-starts, counted, fits some few, meter-fields, good-figures (period ∷ metered) w, le-leb (length (period ∷ metered)) places room)
+      rw (le-leb (length (meterLine period metered)) longest short, meter-starts, counted, fits some few, meter-fields, good-figures (period ∷ metered) w, le-leb (length (period ∷ metered)) places room)
 
   pub meter-back : (places : List ℕ) → Within (period ∷ metered) (10 ^ 19 - 1) → 1 ≤ length metered → length metered ≤ 512
-      → length (meterLine period metered) ≤ 8192 → length (period ∷ metered) ≤ length places
+      → length (meterLine period metered) ≤ longest → length (period ∷ metered) ≤ length places
       → readCall (meterLine period metered) places
       ≡ record { answer = record { number = 0; start = 4; fields = length (period ∷ metered) }; figures = (period ∷ metered) ++ drop (length (period ∷ metered)) places }
   unfolding readCall

@@ -6,8 +6,8 @@ use Prim.Native.Nat.{ℕ, zero, suc, _+_, _-_, _≤_, _<_, zero-le}
 use native.Mathlib.Nat.{add-zero}
 use native.Mathlib.Numerals.{add-one}
 use native.Mathlib.Omega.{arith}
-use borrow.Author.Tests.{eq-eqb, ne-eqb, eqb-true, eqb-false, ltb-true, ltb-false}
-use lib.Dec.{eqb, ltb}
+use borrow.Author.Tests.{eq-eqb, ne-eqb, eqb-true, eqb-false}
+use lib.Dec.{eqb}
 use lib.ListN.{length, take, drop, getD, length-drop, drop-of-length-le}
 use lib.Seq.{drop-cons, getD-drop, drop-drop, drop-nil, take-all, length-take-le}
 use Rattle.lists.proofs.Questions.{refuses, accepts}
@@ -205,17 +205,3 @@ module _ (l : List ℕ) (i : ℕ) where
   pub comma-there : nextComma l i < length l → getD l (nextComma l i) 0 ≡ 44
   unfolding nextComma
   comma-there h = sym (getD-drop i l (toComma (drop i l)) 0) ∙ at-comma (drop i l) (omega (arith, length-drop i l))
-
-  -- it is the only such place
-  pub next-is : (e : ℕ) → i ≤ e → e ≤ length l → ((k : ℕ) → i ≤ k → k < e → getD l k 0 ≡ 44 → ⊥) → (e < length l → getD l e 0 ≡ 44) → e ≡ nextComma l i
-  next-is e low high none there = by (ltb e (nextComma l i)) refl (ltb (nextComma l i) e) refl
-    where
-      by : (s : Bool) → ltb e (nextComma l i) ≡ s → (t : Bool) → ltb (nextComma l i) e ≡ t → e ≡ nextComma l i
-      by true p t q =
-          let less : e < nextComma l i = ltb-true e (nextComma l i) p in
-          let in-line = next-high l i (omega arith) in
-          absurd (none-before e low less (there (omega arith)))
-      by false p true q =
-          let less : nextComma l i < e = ltb-true (nextComma l i) e q in
-          absurd (none (nextComma l i) (next-low l i) less (comma-there (omega arith)))
-      by false p false q = omega (arith, ltb-false e (nextComma l i) p, ltb-false (nextComma l i) e q)

@@ -14,7 +14,7 @@ use Rattle.lists.specs.Lists.{every}
 use Rattle.lists.specs.Questions.{firstNo}
 use Rattle.lists.proofs.Questions.{both, refuses, accepts}
 use Rattle.figures.specs.Figures.{value, isFigure, ReadAs}
-use Rattle.lines.specs.Fields.{nextComma, fields}
+use Rattle.lines.specs.Fields.{longest, nextComma, fields}
 use Rattle.lines.specs.Reading.{lineStart, startLength, lineFields, countFits, readNumber, refusal, ReadEnd, readCall}
 use Rattle.lines.specs.Inner.{firstField, worth, ReadTo}
 use Rattle.lines.specs.declared.reading.Line.{Line}
@@ -142,7 +142,7 @@ worths (f ∷ fs) e =
 
 -- what is known once the fields are read to a list of 513 places
 pub record Known (line : List ℕ) (start : ℕ) (list : List ℕ) (count : ℕ) (good : Bool) : Type 0 where
-  pub short : length line ≤ 8192
+  pub short : length line ≤ longest
   pub is : start ≡ lineStart line
   pub some : start ≡ 0 → ⊥
   pub size : length list ≡ 513
@@ -152,7 +152,7 @@ pub record Known (line : List ℕ) (start : ℕ) (list : List ℕ) (count : ℕ)
   pub holds : length (lineFields line) ≤ 513 → take (length (lineFields line)) list ≡ map worth (lineFields line)
 
 pub known : (line : List ℕ) (start from : ℕ) {own list : List ℕ} {count : ℕ} {good : Bool} → ReadTo (fields (drop from line)) own list count good → length own ≡ 513
-    → length list ≡ length own → length line ≤ 8192 → start ≡ lineStart line → (start ≡ 0 → ⊥) → from ≡ startLength start → Known line start list count good
+    → length list ≡ length own → length line ≤ longest → start ≡ lineStart line → (start ≡ 0 → ⊥) → from ≡ startLength start → Known line start list count good
 unfolding lineFields
 known line start from {own} {list} {count} {good} read size same short is some e =
     let r : ReadTo (lineFields line) own list count good = rw (← is, ← e) read in
@@ -189,7 +189,7 @@ module _ {line : List ℕ} {start : ℕ} {list : List ℕ} {count : ℕ} {good :
 
   pub number-28 : countFits start count ≡ false → 28 ≡ readNumber line places
   unfolding readNumber firstNo
-  number-28 e = rw (le-leb (length line) 8192 (k .short), started, ← count-fits, e)
+  number-28 e = rw (le-leb (length line) longest (k .short), started, ← count-fits, e)
 
   module _ (f : countFits start count ≡ true) where
     few : length (lineFields line) ≤ 513
@@ -209,16 +209,16 @@ module _ {line : List ℕ} {start : ℕ} {list : List ℕ} {count : ℕ} {good :
 
     pub number-29 : good ≡ false → 29 ≡ readNumber line places
     unfolding readNumber firstNo
-    number-29 e = rw (le-leb (length line) 8192 (k .short), started, ← count-fits, f, ← k .tested few, e)
+    number-29 e = rw (le-leb (length line) longest (k .short), started, ← count-fits, f, ← k .tested few, e)
 
     module _ (g : good ≡ true) where
       pub number-30 : places < count → 30 ≡ readNumber line places
       unfolding readNumber firstNo
-      number-30 e = rw (le-leb (length line) 8192 (k .short), started, ← count-fits, f, ← k .tested few, g, lt-leb (length (lineFields line)) places (rw count-is at e))
+      number-30 e = rw (le-leb (length line) longest (k .short), started, ← count-fits, f, ← k .tested few, g, lt-leb (length (lineFields line)) places (rw count-is at e))
 
       pub number-0 : count ≤ places → 0 ≡ readNumber line places
       unfolding readNumber firstNo
-      number-0 e = rw (le-leb (length line) 8192 (k .short), started, ← count-fits, f, ← k .tested few, g, le-leb (length (lineFields line)) places (rw count-is at e))
+      number-0 e = rw (le-leb (length line) longest (k .short), started, ← count-fits, f, ← k .tested few, g, le-leb (length (lineFields line)) places (rw count-is at e))
 
       -- each field is worth its value
       pub figures-are : take count list ≡ map value (lineFields line)

@@ -25,9 +25,13 @@ unfoldable pub fields : List ℕ → List (List ℕ)
 fields [] = [] ∷ []
 fields (b ∷ bs) = cond (eqb b 44) ([] ∷ fields bs) (toFirst b (fields bs))
 
+-- 26: "at most 8,192 bytes"
+abbrev pub longest : ℕ
+longest = 8192
+
 -- the questions that the field call puts: 26, "then 28 if the line has no such field (counted from 0 at the line's first byte)"
 unfoldable pub fieldNumber : List ℕ → ℕ → ℕ
-fieldNumber line index = firstNo (leb (length line) 8192 ⁇ 26 ∷ ltb index (length (fields line)) ⁇ 28 ∷ [])
+fieldNumber line index = firstNo (leb (length line) longest ⁇ 26 ∷ ltb index (length (fields line)) ⁇ 28 ∷ [])
 
 -- the field's bytes; refused, "an empty part"
 unfoldable pub fieldBytes : List ℕ → ℕ → List ℕ

@@ -7,7 +7,7 @@ use lib.ListN.{length, drop}
 use Rattle.lists.specs.Lists.{every}
 use Rattle.lists.specs.Questions.{_⁇_, firstNo, inRange, outcome}
 use Rattle.figures.specs.Figures.{value, isFigure}
-use Rattle.lines.specs.Fields.{fields}
+use Rattle.lines.specs.Fields.{longest, fields}
 use Rattle.lines.specs.declared.reading.Line.{Line}
 
 -- does the line begin with these bytes?
@@ -58,7 +58,7 @@ countFits start count =
 unfoldable pub readNumber : List ℕ → ℕ → ℕ
 readNumber line places =
     firstNo
-    (leb (length line) 8192 ⁇ 26
+    (leb (length line) longest ⁇ 26
     ∷ ltb 0 (lineStart line) ⁇ 27
     ∷ countFits (lineStart line) (length (lineFields line)) ⁇ 28
     ∷ every isFigure (lineFields line) ⁇ 29

@@ -3,15 +3,15 @@ use mathlib.Core.Path.{_≡_, refl, sym, ap, _∙_, subst}
 use mathlib.Core.Logic.{_⊎_, inl, inr}
 use Prim.Native.Nat.{ℕ, zero, suc, _+_, _-_, min, max, _≤_, _<_}
 use native.Mathlib.Omega.{arith}
-use native.Mathlib.Nat.{le-antisymm, le-refl, le-of-eq, zero-max, max-zero, suc-max-suc, suc-inj}
+use native.Mathlib.Nat.{le-antisymm, le-of-eq, zero-max, max-zero, suc-max-suc, suc-inj}
 use mathlib.Core.Bool.{Bool, true, false, cond}
 use mathlib.Core.List.{List, [], _∷_, _++_, map}
 use lib.Dec.{eqb}
 use borrow.Author.Tests.{ne-eqb}
 use lib.ListN.{length, getD, List·getD-map}
 use lib.Seq.{ext-getD}
-use Rattle.lists.specs.Lists.{sum, table, tableFrom}
-use Rattle.lists.specs.Columns.{rowwise, _⊕_, _⊖_, _⊓_, joined, inside, beyond, within, outside, four, at, totals, transpose}
+use Rattle.lists.specs.Lists.{sum, table}
+use Rattle.lists.specs.Columns.{rowwise, _⊕_, _⊖_, _⊓_, joined, inside, beyond, within, outside, at, totals, transpose}
 use Rattle.lists.proofs.Sums.{at-le-sum, length-table, getD-table}
 
 infixl 80 _!_
@@ -131,42 +131,21 @@ joined-four (a ∷ b ∷ c ∷ []) e i = absurd (omega arith)
 joined-four (a ∷ b ∷ c ∷ d ∷ x ∷ xs) e i = absurd (omega arith)
 
 -- ---- columns turned into rows
-module _ {A : Type 0} (d : A) where
-  beside-head : (c : List A) (rows : List (List A)) (g : ℕ) → getD (getD (rowwise _∷_ d [] c rows) g []) 0 d ≡ getD c g d
-  unfolding rowwise
-  beside-head [] [] g = refl
-  beside-head [] (r ∷ rows) zero = refl
-  beside-head [] (r ∷ rows) (suc g) = beside-head [] rows g
-  beside-head (x ∷ c) [] zero = refl
-  beside-head (x ∷ c) [] (suc g) = beside-head c [] g
-  beside-head (x ∷ c) (r ∷ rows) zero = refl
-  beside-head (x ∷ c) (r ∷ rows) (suc g) = beside-head c rows g
+module _ {A B : Type 0} (d : A) (f : List A → B) (e : f [] ≡ f (d ∷ [])) where
+  padded : (rows : List (List A)) (g : ℕ) → f (getD rows g []) ≡ f (getD rows g (d ∷ []))
+  padded [] g = e
+  padded (r ∷ rows) zero = refl
+  padded (r ∷ rows) (suc g) = padded rows g
 
-  beside-tail : (c : List A) (rows : List (List A)) (g r : ℕ) → getD (getD (rowwise _∷_ d [] c rows) g []) (suc r) d ≡ getD (getD rows g []) r d
-  unfolding rowwise
-  beside-tail [] [] g r = refl
-  beside-tail [] (w ∷ rows) zero r = refl
-  beside-tail [] (w ∷ rows) (suc g) r = beside-tail [] rows g r
-  beside-tail (x ∷ c) [] zero r = refl
-  beside-tail (x ∷ c) [] (suc g) r = beside-tail c [] g r
-  beside-tail (x ∷ c) (w ∷ rows) zero r = refl
-  beside-tail (x ∷ c) (w ∷ rows) (suc g) r = beside-tail c rows g r
+  -- a row with a figure put before it, by a function that a missing figure does not change
+  beside : (c : List A) (rows : List (List A)) (g : ℕ) → f (getD (rowwise _∷_ d [] c rows) g []) ≡ f (getD c g d ∷ getD rows g [])
+  beside c rows g = padded (rowwise _∷_ d [] c rows) g ∙ ap f (rowwise-at _∷_ d [] c rows g)
 
-  pub getD-transpose : (cs : List (List A)) (g r : ℕ) → getD (getD (transpose d cs) g []) r d ≡ getD (getD cs r []) g d
-  unfolding transpose
-  getD-transpose [] g r = refl
-  getD-transpose (c ∷ cs) g zero = beside-head c (transpose d cs) g
-  getD-transpose (c ∷ cs) g (suc r) = beside-tail c (transpose d cs) g r ∙ getD-transpose cs g r
-
-beside-sum : (c : List ℕ) (rows : List (List ℕ)) (g : ℕ) → sum (getD (rowwise _∷_ 0 [] c rows) g []) ≡ c ! g + sum (getD rows g [])
-unfolding rowwise sum
-beside-sum [] [] g = refl
-beside-sum [] (r ∷ rows) zero = refl
-beside-sum [] (r ∷ rows) (suc g) = beside-sum [] rows g
-beside-sum (x ∷ c) [] zero = refl
-beside-sum (x ∷ c) [] (suc g) = beside-sum c [] g
-beside-sum (x ∷ c) (r ∷ rows) zero = refl
-beside-sum (x ∷ c) (r ∷ rows) (suc g) = beside-sum c rows g
+pub getD-transpose : {A : Type 0} (d : A) (cs : List (List A)) (g r : ℕ) → getD (getD (transpose d cs) g []) r d ≡ getD (getD cs r []) g d
+unfolding transpose
+getD-transpose d [] g r = refl
+getD-transpose d (c ∷ cs) g zero = beside d (λ row. getD row 0 d) refl c (transpose d cs) g
+getD-transpose d (c ∷ cs) g (suc r) = beside d (λ row. getD row (suc r) d) refl c (transpose d cs) g ∙ getD-transpose d cs g r
 
 pub transpose-at : (cs : List (List ℕ)) (g r : ℕ) → getD (transpose 0 cs) g [] ! r ≡ getD cs r [] ! g
 transpose-at = getD-transpose 0
@@ -174,8 +153,7 @@ transpose-at = getD-transpose 0
 pub transpose-sum : (cs : List (List ℕ)) (g : ℕ) → sum (getD (transpose 0 cs) g []) ≡ joined cs ! g
 unfolding transpose sum joined
 transpose-sum [] g = refl
-transpose-sum (c ∷ cs) g =
-    beside-sum c (transpose 0 cs) g ∙ ap (λ (x : ℕ). c ! g + x) (transpose-sum cs g) ∙ sym (at-⊕ c (joined cs) g)
+transpose-sum (c ∷ cs) g = beside 0 sum refl c (transpose 0 cs) g ∙ ap (λ (x : ℕ). c ! g + x) (transpose-sum cs g) ∙ sym (at-⊕ c (joined cs) g)
 
 -- ---- the rows of a submarket
 -- a submarket number is one of the four or none
@@ -201,14 +179,17 @@ one (suc (suc (suc (suc (suc n))))) = past (suc (suc (suc (suc (suc n))))) (omeg
     past t h =
         others _ _ _ _ (ne-eqb t 1 (λ e. omega arith)) (ne-eqb t 2 (λ e. omega arith)) (ne-eqb t 3 (λ e. omega arith)) (ne-eqb t 4 (λ e. omega arith))
 
--- what holds at 1, 2, 3 and 4 holds at each submarket
+-- what holds at 0, 1, 2 and 3 holds at each place of four, and so at each submarket 1 to 4
+pub below-four : (P : ℕ → Type 0) → P 0 → P 1 → P 2 → P 3 → (i : ℕ) → i < 4 → P i
+below-four P a b c d zero h = a
+below-four P a b c d (suc zero) h = b
+below-four P a b c d (suc (suc zero)) h = c
+below-four P a b c d (suc (suc (suc zero))) h = d
+below-four P a b c d (suc (suc (suc (suc i)))) h = absurd (omega arith)
+
 pub each : (P : ℕ → Type 0) → P 1 → P 2 → P 3 → P 4 → (s : ℕ) → 1 ≤ s → s ≤ 4 → P s
 each P a b c d zero l h = absurd (omega arith)
-each P a b c d (suc zero) l h = a
-each P a b c d (suc (suc zero)) l h = b
-each P a b c d (suc (suc (suc zero))) l h = c
-each P a b c d (suc (suc (suc (suc zero)))) l h = d
-each P a b c d (suc (suc (suc (suc (suc n))))) l h = absurd (omega arith)
+each P a b c d (suc s) l h = below-four (λ i. P (suc i)) a b c d s (omega arith)
 
 cond-same : (b : Bool) → _≡_ {A = ℕ} (cond b 0 0) 0
 cond-same true = refl

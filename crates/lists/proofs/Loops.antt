@@ -9,10 +9,8 @@
 --     filling-kept    what stands at i and behind has not been written yet
 --     filled          at the end
 --   A loop that stores f i at i, for any f. Its invariant is `Tabling f n i out₀ out`; the laws are tabling, tabling-more, tabled.
---   A loop that puts a question to each row and stops at the first no: `Scanning f n i`; the laws are scanning, scanning-more, scanned, stopped.
 --   A loop that puts a test to each element and stops at the first that fails: `Passing p l i`; the laws are passing,
 --   passing-more, halted, passed; of figures that must be at most n, `Limiting n l i`, with limiting, limiting-more, exceeded, limited.
---   A loop that sums f i, for any f. Its invariant is `Summing f n i s`; the laws are summing, summing-more, summing-le, summed.
 -- Assumes nothing.
 use mathlib.Core.Path.{_≡_, refl, sym, ap, _∙_}
 use mathlib.Core.Bool.{Bool, true, false, _&&_}
@@ -21,7 +19,7 @@ use Prim.Native.Nat.{ℕ, zero, suc, _+_, _-_, _^_, _≤_, _<_, zero-le}
 use native.Mathlib.Nat.{le-antisymm, sub-zero, add-zero, zero-add}
 use native.Mathlib.Numerals.{add-one}
 use native.Mathlib.Omega.{arith}
-use lib.ListN.{length, take, drop, getD, set, replicate, length-set, drop-of-length-le, take-append-drop}
+use lib.ListN.{length, drop, getD, set, replicate, length-set, drop-of-length-le, take-append-drop}
 use lib.Seq.{drop-cons, take-suc-set, drop-set-lt, drop-drop, getD-drop}
 use borrow.Author.Needs.{needs}
 use lib.Dec.{leb}
@@ -29,8 +27,6 @@ use mir.Syntax.{w64}
 use mir.Val.{Fits}
 use borrow.Author.Tests.{le-leb, lt-leb}
 use Rattle.lists.specs.Lists.{sum, table, tableFrom, between, every, atMost}
-use Rattle.lists.specs.Questions.{_then_, firstNumber}
-use Rattle.lists.proofs.Questions.{then-yes, then-no}
 
 module _ {ℓ κ} {A : Type ℓ} {R : Type κ} (f : List A → R) where
   pub rest-more : (l : List A) (i : ℕ) (d : A) → i < length l → f (drop i l) ≡ f (getD l i d ∷ drop (i + 1) l)
@@ -115,30 +111,6 @@ module _ {ℓ} {A : Type ℓ} {g : ℕ → A → A} {d : A} {n : ℕ} {out₀ : 
   pub updated : {i : ℕ} {out : List A} → Updating g d n i out₀ out → n ≤ i → out ≡ table n (λ (j : ℕ). g j (getD out₀ j d)) ++ drop n out₀
   updated k h = tabled _ (k .now) h
 
--- A loop that sums f i, for any f, with s the sum of the first i.
-pub record Summing (f : ℕ → ℕ) (n i s : ℕ) : Type 0 where
-  pub turns : i ≤ n
-  pub whole : s + sum (tableFrom f i (n - i)) ≡ sum (table n f)
-
-one : (f : ℕ → ℕ) (i n : ℕ) → i < n → sum (tableFrom f i (n - i)) ≡ f i + sum (tableFrom f (i + 1) (n - (i + 1)))
-unfolding sum
-one f i n h = ap sum (table-more f i n h)
-
-module _ {f : ℕ → ℕ} {n : ℕ} where
-  pub summing : Summing f n 0 0
-  summing = record { turns = zero-le; whole = rw (zero-add, sub-zero) }
-
-  pub summing-more : {i s t : ℕ} → Summing f n i s → i < n → t ≡ s + f i → Summing f n (i + 1) t
-  summing-more {i} k h e = record { turns = omega arith; whole = omega (arith, one f i n h, k .whole) }
-
-  -- the sum with one more stays within the whole
-  pub summing-le : {i s : ℕ} → Summing f n i s → i < n → s + f i ≤ sum (table n f)
-  summing-le {i} k h = omega (arith, one f i n h, k .whole)
-
-  pub summed : {i s : ℕ} → Summing f n i s → n ≤ i → s ≡ sum (table n f)
-  unfolding sum
-  summed {i} k h = omega (arith, ap sum (table-none f i n h), k .whole)
-
 -- A loop that sums a list, with s the sum of the first i.
 pub record Adding (l : List ℕ) (i s : ℕ) : Type 0 where
   pub turns : i ≤ length l
@@ -162,32 +134,6 @@ module _ {l : List ℕ} where
   pub added : {i s : ℕ} → Adding l i s → length l ≤ i → s ≡ sum l
   unfolding sum
   added {i} k h = omega (arith, rest-none sum l i h, k .whole)
-
--- A loop that puts a question to each row in turn, and leaves at the first number above 0.
-pub record Scanning (f : ℕ → ℕ) (n i : ℕ) : Type 0 where
-  pub turns : i ≤ n
-  pub whole : firstNumber (table n f) ≡ firstNumber (tableFrom f i (n - i))
-
-first-is : (n : ℕ) (ns : List ℕ) → firstNumber (n ∷ ns) ≡ n then firstNumber ns
-unfolding firstNumber
-first-is n ns = refl
-
-first-nil : firstNumber [] ≡ 0
-unfolding firstNumber
-first-nil = refl
-
-module _ {f : ℕ → ℕ} {n : ℕ} where
-  pub scanning : Scanning f n 0
-  scanning = record { turns = zero-le; whole = rw sub-zero }
-
-  pub scanning-more : {i : ℕ} → Scanning f n i → i < n → f i ≡ 0 → Scanning f n (i + 1)
-  scanning-more {i} k h e = record { turns = omega arith; whole = k .whole ∙ ap firstNumber (table-more f i n h) ∙ first-is (f i) _ ∙ sym (then-yes _ _ _ (sym e) refl) }
-
-  pub scanned : {i : ℕ} → Scanning f n i → n ≤ i → 0 ≡ firstNumber (table n f)
-  scanned {i} k h = sym (k .whole ∙ ap firstNumber (table-none f i n h) ∙ first-nil)
-
-  pub stopped : {i v : ℕ} → Scanning f n i → i < n → v ≡ f i → (v ≡ 0 → ⊥) → v ≡ firstNumber (table n f)
-  stopped {i} k h e u = e ∙ sym (k .whole ∙ ap firstNumber (table-more f i n h) ∙ first-is (f i) _ ∙ sym (then-no _ _ _ refl (λ z. u (e ∙ z))))
 
 -- A loop that puts a test to each element, and leaves at the first that fails it.
 pub record Passing {A : Type 0} (p : A → Bool) (l : List A) (i : ℕ) : Type 0 where
@@ -246,4 +192,4 @@ table-constant n v = go n 0
     go (suc n) i = ap (λ l. v ∷ l) (go n (i + 1))
 
 -- For `search loops` at the needs of a loop.
-pub ruleset loops = (filling, tabling, tabling-more, tabled, updating, updating-more, updated, summing, summing-more, summed, adding, adding-more, adding-fits, added, scanning, scanning-more, scanned, stopped, limiting, limiting-more, exceeded, limited, needs)
+pub ruleset loops = (filling, tabling, tabling-more, tabled, updating, updating-more, updated, adding, adding-more, adding-fits, added, limiting, limiting-more, exceeded, limited, needs)

@@ -1,7 +1,7 @@
 -- Laws of questions. `search asks` proves an answer `r ≡ firstNo (..)` from the tests that led to it, one `if` for each comparison or call;
 -- `search tests` proves what a function of a few joined tests answers; `search outcomes` proves what a call leaves by its number. Assumes nothing.
-use Prim.Native.Nat.{ℕ, zero, suc, _+_, _*_, _<_, _≤_}
-use mathlib.Core.Bool.{Bool, true, false, false≢true, not, cond, _&&_, _||_}
+use Prim.Native.Nat.{ℕ, zero, suc, _*_, _<_, _≤_}
+use mathlib.Core.Bool.{Bool, true, false, false≢true, not, _&&_, _||_}
 use mathlib.Core.List.{List, [], _∷_}
 use mathlib.Core.Path.{_≡_, refl, sym, ap, _∙_, subst}
 use native.Mathlib.Omega.{arith}
@@ -10,7 +10,7 @@ use lib.Dec.{T, eqb, ltb, leb}
 use lib.ListN.{length, getD}
 use native.Mathlib.Nat.{suc-mul}
 use Rattle.lists.specs.Lists.{sum, every, atMost}
-use Rattle.lists.specs.Questions.{_then_, Question, _⁇_, part, firstNo, firstNumber, inRange, outcome}
+use Rattle.lists.specs.Questions.{_then_, Question, _⁇_, part, firstNo, inRange, outcome}
 
 pub then-yes : (n m r : ℕ) → 0 ≡ n → r ≡ m → r ≡ n then m
 unfolding _then_

@@ -2,9 +2,9 @@
 use mathlib.Core.Path.{_≡_, refl, sym, ap, _∙_}
 use Prim.Native.Nat.{ℕ, zero, suc, _+_, _-_, _*_, _≤_, _<_}
 use native.Mathlib.Omega.{arith}
-use native.Mathlib.Nat.{add-zero, zero-add, suc-add, mul-add, mul-one, suc-mul, zero-mul, mul-zero, suc-inj}
+use native.Mathlib.Nat.{add-zero, zero-add, suc-add, mul-add, mul-one, suc-mul, zero-mul, mul-zero}
 use mathlib.Core.List.{List, [], _∷_, _++_, flatten}
-use lib.ListN.{length, getD, take, drop, replicate, length-append, drop-of-length-le, List·getD-append, List·getD-eq-default}
+use lib.ListN.{length, getD, take, drop, replicate, length-append, drop-of-length-le, List·getD-append}
 use lib.Seq.{drop-cons, drop-drop, getD-drop, getD-append-add, ext-getD}
 use Rattle.lists.specs.Lists.{sum, table, tableFrom}
 use Rattle.lists.specs.Columns.{rowwise, transpose, byRow, column}

@@ -2,8 +2,7 @@
 use mathlib.Core.Path.{_≡_, refl, sym, ap, _∙_}
 use mathlib.Core.List.{List, [], _∷_, _++_}
 use Prim.Native.Nat.{ℕ, zero, suc, _+_, _*_, _≤_, _<_, zero-le}
-use native.Mathlib.Nat.{zero-add, add-assoc, add-zero, le-of-suc-le-suc, not-suc-le-zero, add-suc}
-use native.Mathlib.Numerals.{add-one}
+use native.Mathlib.Nat.{zero-add, add-zero, le-of-suc-le-suc, not-suc-le-zero}
 use native.Mathlib.Omega.{arith}
 use lib.ListN.{length, take, drop, getD, replicate}
 use lib.Seq.{ext-getD}
@@ -63,15 +62,6 @@ module _ {ℓ} {A : Type ℓ} (f : ℕ → A) where
 module _ {ℓ} {A : Type ℓ} (d : A) where
   pub table-getD : (l : List A) → table (length l) (λ (i : ℕ). getD l i d) ≡ l
   table-getD l = ext-getD d _ l (length-table _ (length l)) (λ i h. getD-table _ (length l) i d (rw length-table at h))
-
-module _ (f g : ℕ → ℕ) (le : (i : ℕ) → f i ≤ g i) where
-  from-le : (i k : ℕ) → sum (tableFrom f i k) ≤ sum (tableFrom g i k)
-  unfolding sum
-  from-le i zero = zero-le
-  from-le i (suc k) = omega (arith, le i, from-le (i + 1) k)
-
-  pub table-sum-le : (n : ℕ) → sum (table n f) ≤ sum (table n g)
-  table-sum-le n = from-le 0 n
 
 module _ (f : ℕ → ℕ) (b : ℕ) (le : (i : ℕ) → f i ≤ b) where
   from-bound : (i k : ℕ) → sum (tableFrom f i k) ≤ k * b

@@ -1,6 +1,6 @@
 -- Lists of figures, one for each row (a plant, a period or a submarket). A figure past a list's end counts as zero. Assumes nothing.
 use Prim.Native.Nat.{ℕ, zero, suc, _+_, _-_, min, _≤_}
-use mathlib.Core.Bool.{Bool, cond}
+use mathlib.Core.Bool.{cond}
 use mathlib.Core.List.{List, [], _∷_, flatten}
 use lib.Dec.{eqb}
 use lib.IntN.{ℤ, pos, _+ℤ_}

@@ -1,7 +1,7 @@
 -- Sums, tables, and a list with a part replaced. Assumes nothing.
-use mathlib.Core.Bool.{Bool, true, false, _&&_}
+use mathlib.Core.Bool.{Bool, true, _&&_}
 use mathlib.Core.List.{List, [], _∷_, _++_}
-use Prim.Native.Nat.{ℕ, zero, suc, _+_, _≤_}
+use Prim.Native.Nat.{ℕ, zero, suc, _+_, _*_, _^_, _≤_}
 use lib.Dec.{leb}
 use lib.IntN.{ℤ, pos, _+ℤ_}
 use lib.ListN.{take, drop, getD}
@@ -26,6 +26,10 @@ table n f = tableFrom f 0 n
 -- the list l, with xs in the place of its elements from index i up to, not including, index n
 abbrev pub between {ℓ} : {A : Type ℓ} → ℕ → ℕ → List A → List A → List A
 between i n l xs = take i l ++ (xs ++ drop n l)
+
+-- the most kWh that a figure of one hour can be: of the profile ('0 to 2 × 10^9 kWh'), metered (question 16), left or needed (23)
+abbrev pub most : ℕ
+most = 2 * 10 ^ 9
 
 -- does each element pass the test?
 unfoldable pub every : {A : Type 0} → (A → Bool) → List A → Bool

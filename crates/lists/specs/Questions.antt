@@ -22,11 +22,6 @@ firstNo [] = 0
 firstNo (b ⁇ n ∷ qs) = cond b (firstNo qs) n
 firstNo (part n ∷ qs) = n then firstNo qs
 
--- the first number above 0 of questions that are put to each row in turn
-unfoldable pub firstNumber : List ℕ → ℕ
-firstNumber [] = 0
-firstNumber (n ∷ ns) = n then firstNumber ns
-
 -- is x from low up to high?
 unfoldable pub inRange : ℕ → ℕ → ℕ → Bool
 inRange low high x = leb low x && leb x high

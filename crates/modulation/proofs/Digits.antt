@@ -1,6 +1,6 @@
 -- A figure times a ratio, from the ratio's first binary digits. Assumes nothing.
 use mathlib.Core.Path.{_≡_, ap}
-use Prim.Native.Nat.{ℕ, _+_, _-_, _*_, _/_, _%_, _≤_, _<_}
+use Prim.Native.Nat.{ℕ, _+_, _*_, _/_, _%_, _≤_, _<_}
 use native.Mathlib.Nat.{mul-le-mul-left, mul-le-mul-right, div-add-mod', mod-lt, div-eq-of-lt-le, div-le-of-le-mul, le-of-lt}
 use native.Mathlib.Omega.{arith}
 

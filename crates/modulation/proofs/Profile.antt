@@ -11,8 +11,8 @@ use Rattle.lists.proofs.Bounds.{scaled}
 use Rattle.lists.proofs.Sums.{table-sum-bound, sum-append, take-le-sum}
 use Rattle.sharing.proofs.Sharing.{share-at, up-to-mono}
 use Rattle.modulation.specs.declared.Modulation.{Modulation}
-use Rattle.modulation.specs.Guarantee.{modulatedIn, guaranteeIn}
-use Rattle.modulation.specs.Totals.{Ordered, Consecutive, modulationOf, partOf, partBy, guaranteeWith, guaranteeOf}
+use Rattle.modulation.specs.Guarantee.{modulatedIn, guaranteeWith, guaranteeIn}
+use Rattle.modulation.specs.Totals.{Ordered, Consecutive, modulationOf, partOf, partBy, guaranteeOf}
 use Rattle.modulation.specs.declared.ratio.Ratio.{Ratio}
 use Rattle.modulation.proofs.Digits.{digits-le}
 

@@ -13,6 +13,9 @@ modulatedIn profile k q = at k (share q profile) 0
 abbrev pub reducedBy : ℕ → ℕ → ℕ → ℕ
 reducedBy loss availability part = part * loss / 1000000 * availability / 1000000
 
--- both steps, of the plant of row i of these columns
+-- Step 2, of the plant of row i of these columns, with its part of Q; and both steps
+abbrev pub guaranteeWith : (ℕ → ℕ) → List ℕ → List ℕ → List ℕ → ℕ → ℕ
+guaranteeWith part gs ls vs i = reducedBy (getD ls i 0) (getD vs i 0) (part (getD gs i 0))
+
 abbrev pub guaranteeIn : List ℕ → ℕ → List ℕ → List ℕ → List ℕ → ℕ → ℕ
-guaranteeIn profile k gs ls vs i = reducedBy (getD ls i 0) (getD vs i 0) (modulatedIn profile k (getD gs i 0))
+guaranteeIn profile k = guaranteeWith (modulatedIn profile k)

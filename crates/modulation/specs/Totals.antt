@@ -2,11 +2,12 @@
 use mathlib.Core.Path.{_≡_}
 use Prim.Native.Nat.{ℕ, _-_, _*_, _/_, _^_, _≤_, _<_}
 use mathlib.Core.List.{List}
-use lib.ListN.{take, getD}
+use lib.ListN.{take}
 use Rattle.lists.specs.Lists.{sum}
+use Rattle.sharing.specs.Sharing.{partBetween}
 use Rattle.modulation.specs.declared.Modulation.{Modulation}
 use Rattle.modulation.specs.declared.ratio.Ratio.{Ratio}
-use Rattle.modulation.specs.Guarantee.{reducedBy}
+use Rattle.modulation.specs.Guarantee.{guaranteeWith}
 use Rattle.modulation.specs.Ratio.{Prepared}
 
 -- Step 1: running totals of the profile at period k (counted from 1)
@@ -19,9 +20,9 @@ pub record Ordered (m : Modulation) : Type 0 where
   pub some : 0 < m .whole
   pub small : m .whole < 2 ^ 43
 
--- ... and the part of Q: floor(Q × Ck / W) − floor(Q × C(k−1) / W)
+-- ... and the part of Q
 abbrev pub partOf : Modulation → ℕ → ℕ
-partOf m q = q * m .upto / m .whole - q * m .before / m .whole
+partOf m q = partBetween q (m .whole) (m .before) (m .upto)
 
 -- ... by two ratios of one whole
 pub record Consecutive (before upto : Ratio) : Type 0 where
@@ -33,9 +34,6 @@ pub record Consecutive (before upto : Ratio) : Type 0 where
 abbrev pub partBy : Ratio → Ratio → ℕ → ℕ
 partBy before upto q = q * upto .part / upto .whole - q * before .part / before .whole
 
--- Step 2, of the plant of row i
-abbrev pub guaranteeWith : (ℕ → ℕ) → List ℕ → List ℕ → List ℕ → ℕ → ℕ
-guaranteeWith part gs ls vs i = reducedBy (getD ls i 0) (getD vs i 0) (part (getD gs i 0))
-
+-- ... and the guarantee after step 2
 abbrev pub guaranteeOf : Modulation → List ℕ → List ℕ → List ℕ → ℕ → ℕ
 guaranteeOf m = guaranteeWith (partOf m)

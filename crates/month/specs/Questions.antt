@@ -1,10 +1,10 @@
 -- "The questions, in the order they are put": the number that each call answers. Assumes nothing.
-use Prim.Native.Nat.{ℕ, _+_, _*_, _^_}
+use Prim.Native.Nat.{ℕ, _+_, _*_}
 use mathlib.Core.Bool.{Bool, true, false, not, _&&_}
 use mathlib.Core.List.{List, [], _∷_}
 use lib.Dec.{leb, ltb, eqb}
 use lib.ListN.{length}
-use Rattle.lists.specs.Lists.{sum, atMost}
+use Rattle.lists.specs.Lists.{sum, most, atMost}
 use Rattle.lists.specs.Columns.{at}
 use Rattle.lists.specs.Questions.{_⁇_, part, firstNo, inRange}
 use Rattle.hour.specs.declared.Plant.{Plant}
@@ -49,7 +49,7 @@ meteredNumber m profile metered lent =
     firstNo
     (inRange 1 (m .periods) (m .due) ⁇ 14
     ∷ eqb (length metered) (m .plants) ⁇ 15
-    ∷ atMost (2 * 10 ^ 9) metered ⁇ 16
+    ∷ atMost most metered ⁇ 16
     ∷ eqb (sum metered) (at (m .due) profile 0) ⁇ 17
     ∷ eqb lent (4 * m .plants) ⁇ 18
     ∷ [])

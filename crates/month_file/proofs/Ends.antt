@@ -1,7 +1,7 @@
 -- The end of the file: the refusal, or the statement after close. Assumes nothing.
 use mathlib.Core.Path.{_≡_, refl, sym, ap, subst, _∙_}
 use mathlib.Core.Bool.{false}
-use mathlib.Core.List.{List, [], _∷_, _++_, map}
+use mathlib.Core.List.{List, [], _∷_, _++_, map, append-assoc}
 use Prim.Native.Nat.{ℕ, zero, suc, _+_, _-_, _*_, _^_, _≤_, _<_}
 use native.Mathlib.Omega.{arith}
 use borrow.Author.Tests.{eq-eqb, ne-eqb}
@@ -9,7 +9,7 @@ use lib.ListN.{length, take, getD, length-append}
 use lib.Seq.{length-take-le}
 use Rattle.lists.specs.Questions.{outcome}
 use Rattle.lists.proofs.Questions.{accepted, refuses, outcome-part, asked, both, limits, then-zero}
-use Rattle.figures.specs.Figures.{figure, figureLength}
+use Rattle.figures.specs.Figures.{figure, commasBefore, byCommas, figureLength}
 use Rattle.lines.specs.Reading.{readNumber, ReadEnd, readCall}
 use Rattle.lines.specs.declared.reading.Line.{Line}
 use Rattle.lines.proofs.Accepted.{read-number}
@@ -45,8 +45,8 @@ use Rattle.month_file.proofs.Parts.{refused-progress}
 -- ---- the refusal's text, field by field
 
 refusal-is : (k n : ℕ) → refusal k n ≡ (82 ∷ []) ++ ((44 ∷ figure k) ++ ((44 ∷ figure n) ++ (10 ∷ [])))
-unfolding refusal line
-refusal-is k n = refl
+unfolding refusal line byCommas commasBefore
+refusal-is k n = simp append-assoc
 
 refusal-short : (k n : ℕ) → k < 2 ^ 64 → n < 2 ^ 64 → length (refusal k n) ≤ 44
 unfolding figureLength

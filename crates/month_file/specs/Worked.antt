@@ -85,5 +85,5 @@ pub record Worked : Type 0 where
   asked : settledFile (sizes ++ (plant11 ++ (plant10 ++ (plant20 ++ hour1)))) ≡ 82 ∷ 44 ∷ 53 ∷ 44 ∷ 54 ∷ 10 ∷ []
 
 pub worked : Worked
-unfolding rowwise sum every atMost joined totals transpose flatten _then_ firstNo inRange outcome parts share serve transfer hourOf modulated guaranteed portion own ownParts table got rest submarkets guarantees secondary covered deficit surplus leftOver rights ownCover coverGot ownSecondary secondaryGot coverTable secondaryTable figure nets allotment accountsOf accounts column sumℤ isWithin inBounds zeros added posted isOpen isBlank sizesNumber placed numbered rowNumber rowsNumber lengthsNumber tablesNumber openNumber ownNumber meteredNumber boundsNumber settleNumber closeNumber openCall settleCall closeCall text.digits text.figure text.minus text.signedFigure text.valueFrom text.value text.isDigit text.leadingZero text.isFigure toFirst fields startsWith lineStart startLength lineFields countFits readNumber line plantLine plantLines totalLine statementText unfinished linesAfter lines plantOf inTurn begun opened settled taken read next refusal printed following settledFile
+unfolding rowwise sum every atMost joined totals transpose flatten _then_ firstNo inRange outcome parts share serve transfer hourOf modulated guaranteed portion own ownParts table got rest submarkets guarantees secondary covered deficit surplus leftOver rights ownCover coverGot ownSecondary secondaryGot coverTable secondaryTable figure nets allotment accountsOf accounts column sumℤ isWithin inBounds zeros added posted isOpen isBlank sizesNumber placed numbered rowNumber rowsNumber lengthsNumber tablesNumber openNumber ownNumber meteredNumber boundsNumber settleNumber closeNumber openCall settleCall closeCall text.digits text.figure text.minus text.signedFigure text.commasBefore text.byCommas text.valueFrom text.value text.isDigit text.leadingZero text.isFigure toFirst fields startsWith lineStart startLength lineFields countFits readNumber line plantLine plantLines totalLine statementText unfinished linesAfter lines plantOf inTurn begun opened settled taken read next refusal printed following settledFile
 worked = record { shown = refl; empty = refl; blankLine = refl; oneMore = refl; unended = refl; early = refl; asked = refl }

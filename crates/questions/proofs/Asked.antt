@@ -2,10 +2,10 @@
 use mathlib.Core.Path.{_≡_, sym, _∙_}
 use mathlib.Core.Bool.{true}
 use mathlib.Core.List.{List, []}
-use Prim.Native.Nat.{ℕ, _*_, _^_, _≤_, _<_}
+use Prim.Native.Nat.{ℕ, _*_, _≤_, _<_}
 use borrow.Author.Tests.{leb-true, ltb-true, eqb-true}
 use lib.ListN.{length}
-use Rattle.lists.specs.Lists.{sum, atMost}
+use Rattle.lists.specs.Lists.{sum, most, atMost}
 use Rattle.lists.proofs.Questions.{asked, parted, both, limits}
 use Rattle.hour.specs.declared.Plant.{Plant}
 use Rattle.ledger.specs.Ledger.{Ledger}
@@ -41,7 +41,7 @@ lengths p l e = let q = both _ _ (asked _ _ [] tt e .0) in record { allotted = e
 -- 5 to 11
 pub record Tables (p : ℕ) (plants : List Plant) (profile : List ℕ) (l : Ledger) : Type 0 where
   pub rows : rowsNumber 0 0 plants ≡ 0
-  pub figures : atMost (2 * 10 ^ 9) profile ≡ true
+  pub figures : atMost most profile ≡ true
   pub some : 0 < sum profile
   pub lengths : Lengths p l
 

@@ -4,7 +4,7 @@ use mathlib.Core.Bool.{Bool, not, _&&_, _||_}
 use mathlib.Core.List.{List, [], _∷_}
 use lib.Dec.{leb, ltb, eqb}
 use lib.ListN.{length}
-use Rattle.lists.specs.Lists.{sum, atMost}
+use Rattle.lists.specs.Lists.{sum, most, atMost}
 use Rattle.lists.specs.Questions.{_⁇_, part, _then_, firstNo, inRange}
 use Rattle.hour.specs.declared.Plant.{Plant}
 use Rattle.ledger.specs.Ledger.{Ledger}
@@ -53,7 +53,7 @@ unfoldable pub tablesNumber : ℕ → List Plant → List ℕ → Ledger → ℕ
 tablesNumber p plants profile l =
     firstNo
     (part (rowsNumber 0 0 plants)
-    ∷ atMost (2 * 10 ^ 9) profile ⁇ 9
+    ∷ atMost most profile ⁇ 9
     ∷ ltb 0 (sum profile) ⁇ 10
     ∷ part (lengthsNumber p l)
     ∷ [])

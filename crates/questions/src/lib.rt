@@ -2,9 +2,9 @@
 use lists::MOST;
 ghost use mathlib.Core.Path.{_≡_};
 ghost use mathlib.Core.Bool.{true};
-ghost use Prim.Native.Nat.{_*_, _^_, _≤_};
+ghost use Prim.Native.Nat.{_*_, _≤_};
 ghost use lib.ListN.{length};
-ghost use Rattle.lists.specs.Lists.{sum, atMost};
+ghost use Rattle.lists.specs.Lists.{sum, most, atMost};
 ghost use Rattle.lists.specs.Questions.{inRange};
 ghost use Rattle.records.specs.Records.{rowsOf};
 ghost use Rattle.questions.specs.Questions.{plantsInLimits, periodsInLimits, sizesNumber, placed, numbered, rowNumber, rowsNumber, lengthsNumber, tablesNumber};
@@ -122,16 +122,10 @@ pub fn rows_number(n: usize, columns: &[u64]) -> u64
 
 // The sum of figures in limits, of a profile or of a metered list.
 pub fn total(figures: &[u64]) -> u64
-    requires { ⌜ (length (now figures) ≤ 744) × (atMost (2 * 10 ^ 9) (now figures) ≡ true) ⌝ }
+    requires { ⌜ (length (now figures) ≤ 744) × (atMost most (now figures) ≡ true) ⌝ }
     ensures { λ r. ⌜ r ≡ sum (now (figures .entry)) ⌝ }
 {
-    let mut sum: u64 = 0;
-    let mut i: usize = 0;
-    while i < figures.len() {
-        sum += figures[i];
-        i += 1;
-    }
-    sum
+    lists::sum_of(figures)
 }
 
 // 11: ledger lists of exactly 4P and 2P, for P in limits.

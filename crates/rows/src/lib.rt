@@ -3,10 +3,11 @@ ghost use mathlib.Core.Path.{_≡_};
 ghost use Prim.Native.Nat.{_+_, _-_, _*_, _^_, _≤_, _<_};
 ghost use lib.IntN.{subℕ};
 ghost use lib.ListN.{length};
-ghost use Rattle.lists.specs.Lists.{sum, Within};
+ghost use Rattle.lists.specs.Lists.{sum, most, Within};
 ghost use Rattle.lists.specs.Columns.{rowwise, _⊕_, _⊖_, _⊓_, inside, within, four, totals, byRow};
+ghost use Rattle.sharing.specs.Sharing.{share};
 ghost use Rattle.blocks.specs.Portion.{Standing};
-ghost use Rattle.rows.specs.Steps.{coveredOf, rightsOf};
+ghost use Rattle.rows.specs.Steps.{coveredBy, rightsBy};
 
 // max(0, x − y)
 fn over(x: u64, y: u64) -> u64
@@ -26,7 +27,7 @@ fn figure_in(s: u64, t: u64, x: u64) -> u64
 pub fn covered_into(generation: u64, whole: u64, a: &[u64], b: &mut [u64])
     requires { ⌜ (whole ≡ sum (now a)) × (sum (now a) < 2 ^ 62) ⌝ }
     requires { ⌜ length (now b) ≡ length (now a) ⌝ }
-    ensures { λ _. ⌜ now (b .exit) ≡ coveredOf generation (now (a .entry)) ⌝ }
+    ensures { λ _. ⌜ now (b .exit) ≡ coveredBy share generation (now (a .entry)) ⌝ }
 {
     if whole <= generation {
         lists::copy_into(a, b);
@@ -39,7 +40,7 @@ pub fn covered_into(generation: u64, whole: u64, a: &[u64], b: &mut [u64])
 pub fn rights_into(secondary: u64, whole: u64, a: &[u64], metered: &[u64], r: &mut [u64])
     requires { ⌜ (whole ≡ sum (now a)) × (sum (now a) < 2 ^ 62) ⌝ }
     requires { ⌜ (length (now metered) ≡ length (now a)) × (length (now r) ≡ length (now a)) ⌝ }
-    ensures { λ _. ⌜ now (r .exit) ≡ rightsOf secondary (now (a .entry)) (now (metered .entry)) ⌝ }
+    ensures { λ _. ⌜ now (r .exit) ≡ rightsBy share secondary (now (a .entry)) (now (metered .entry)) ⌝ }
 {
     if whole == 0 {
         lists::copy_into(metered, r);
@@ -63,7 +64,7 @@ pub fn deficits_into(covered: &[u64], metered: &[u64], d: &mut [u64])
 // Step 8: nets.
 pub fn nets_into(metered: &[u64], covered: &[u64], rights: &[u64], nets: &mut [i64])
     requires { ⌜ (length (now covered) ≡ length (now metered)) × (length (now rights) ≡ length (now metered)) × (length (now nets) ≡ length (now metered)) ⌝ }
-    requires { ⌜ Within (now metered) (2 * 10 ^ 9) × Within (now covered) (2 * 10 ^ 9) × Within (now rights) (2 * 10 ^ 9) ⌝ }
+    requires { ⌜ Within (now metered) most × Within (now covered) most × Within (now rights) most ⌝ }
     ensures { λ _. ⌜ now (nets .exit) ≡ rowwise subℕ 0 0 (now (metered .entry)) (now (covered .entry) ⊕ now (rights .entry)) ⌝ }
 {
     let mut i: usize = 0;
@@ -77,7 +78,7 @@ pub fn nets_into(metered: &[u64], covered: &[u64], rights: &[u64], nets: &mut [i
 pub fn surplus_by(submarket: &[u64], metered: &[u64], covered: &[u64]) -> [u64; 4]
     requires { ⌜ (length (now metered) ≡ length (now submarket)) × (length (now covered) ≡ length (now submarket)) ⌝ }
     requires { ⌜ Standing 0 (now submarket) ⌝ }
-    requires { ⌜ sum (now metered) ≤ 2 * 10 ^ 9 ⌝ }
+    requires { ⌜ sum (now metered) ≤ most ⌝ }
     ensures { λ r. ⌜ r ≡ totals (now (submarket .entry)) (now (metered .entry) ⊖ now (covered .entry)) ⌝ }
 {
     let mut surplus = [0u64; 4];
@@ -113,8 +114,8 @@ pub fn start_into(submarket: &[u64], metered: &[u64], covered: &[u64], allotment
 pub fn share_out(metered: &[u64], whole: u64, a: &[u64], b: &mut [u64], r: &mut [u64]) -> u64
     requires { ⌜ (whole ≡ sum (now a)) × (sum (now a) < 2 ^ 62) × (sum (now metered) < 2 ^ 62) ⌝ }
     requires { ⌜ (length (now metered) ≡ length (now a)) × (length (now b) ≡ length (now a)) × (length (now r) ≡ length (now a)) ⌝ }
-    ensures { λ _. ⌜ now (b .exit) ≡ coveredOf (sum (now (metered .entry))) (now (a .entry)) ⌝ }
-    ensures { λ _. ⌜ now (r .exit) ≡ rightsOf (sum (now (metered .entry)) - sum (now (a .entry))) (now (a .entry)) (now (metered .entry)) ⌝ }
+    ensures { λ _. ⌜ now (b .exit) ≡ coveredBy share (sum (now (metered .entry))) (now (a .entry)) ⌝ }
+    ensures { λ _. ⌜ now (r .exit) ≡ rightsBy share (sum (now (metered .entry)) - sum (now (a .entry))) (now (a .entry)) (now (metered .entry)) ⌝ }
     ensures { λ z. ⌜ z ≡ sum (now (metered .entry)) - sum (now (a .entry)) ⌝ }
 {
     let generation = sharing::weights_total(metered);
@@ -137,7 +138,7 @@ pub fn prepare(
     requires { ⌜ (length (now metered) ≡ length (now submarket)) × (length (now covered) ≡ length (now submarket)) × (length (now rights) ≡ length (now submarket)) ⌝ }
     requires { ⌜ (length (now d) ≡ length (now submarket)) × (length (now nets) ≡ length (now submarket)) × (length (now allotment) ≡ 4 * length (now submarket)) ⌝ }
     requires { ⌜ Standing 0 (now submarket) ⌝ }
-    requires { ⌜ (sum (now metered) ≤ 2 * 10 ^ 9) × (sum (now covered) ≤ 2 * 10 ^ 9) × (sum (now rights) ≤ 2 * 10 ^ 9) ⌝ }
+    requires { ⌜ (sum (now metered) ≤ most) × (sum (now covered) ≤ most) × (sum (now rights) ≤ most) ⌝ }
     ensures { λ _. ⌜ now (d .exit) ≡ now (covered .entry) ⊖ now (metered .entry) ⌝ }
     ensures { λ _. ⌜ now (nets .exit) ≡ rowwise subℕ 0 0 (now (metered .entry)) (now (covered .entry) ⊕ now (rights .entry)) ⌝ }
     ensures { λ _. ⌜ now (allotment .exit) ≡ byRow 0 (four (λ s. within s (now (submarket .entry)) (now (metered .entry) ⊓ now (covered .entry)))) ⌝ }

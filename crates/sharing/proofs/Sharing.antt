@@ -5,7 +5,7 @@ use Prim.Native.Nat.{ℕ, zero, suc, _+_, _-_, _*_, _/_, _≤_, _<_}
 use native.Mathlib.Omega.{arith}
 use native.Mathlib.Nat.{eq-zero-or-pos, mul-le-mul-left, add-mul-div-right, mul-div-cancel, zero-div, mul-zero, zero-mul, div-zero, le-div-iff-mul-le, div-mul-le-self, le-trans, add-zero, zero-add, add-assoc, sub-self, le-of-suc-le-suc, not-suc-le-zero}
 use mathlib.Core.List.{List, [], _∷_, _++_, append-nil}
-use lib.ListN.{length, getD, take, replicate}
+use lib.ListN.{length, take, replicate}
 use Rattle.lists.specs.Lists.{sum}
 use Rattle.lists.proofs.Sums.{at-le-sum, sum-append, sum-zeros}
 use Rattle.lists.proofs.Columns.{_!_}

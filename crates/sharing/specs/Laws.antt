@@ -2,10 +2,10 @@
 use mathlib.Core.Path.{_≡_}
 use mathlib.Core.Logic.{_⊎_}
 use mathlib.Core.List.{List, _++_}
-use Prim.Native.Nat.{ℕ, _-_, _*_, _/_, suc, _≤_, _<_}
+use Prim.Native.Nat.{ℕ, suc, _≤_, _<_}
 use lib.ListN.{length, getD, take, replicate}
 use Rattle.lists.specs.Lists.{sum}
-use Rattle.sharing.specs.Sharing.{Rule, share}
+use Rattle.sharing.specs.Sharing.{Rule, partBetween, share}
 
 pub record Lawful (rule : Rule) : Type 0 where
   -- a part for each weight
@@ -26,4 +26,4 @@ pub record Lawful (rule : Rule) : Type 0 where
 pub record Promised : Type 0 where
   pub lawful : Lawful share
   pub part : (t : ℕ) (ws : List ℕ) (i : ℕ) → i < length ws
-      → getD (share t ws) i 0 ≡ t * sum (take (suc i) ws) / sum ws - t * sum (take i ws) / sum ws
+      → getD (share t ws) i 0 ≡ partBetween t (sum ws) (sum (take i ws)) (sum (take (suc i) ws))

@@ -2,18 +2,15 @@
 use mathlib.Core.Path.{_≡_, refl, sym, ap, _∙_, subst}
 use Prim.Native.Nat.{ℕ, _+_, _*_}
 use native.Mathlib.Omega.{arith}
-use mathlib.Core.List.{List, [], _∷_, map}
+use mathlib.Core.List.{List, [], _∷_}
 use lib.IntN.{ℤ, pos, _*ℤ_, zero-*ℤ, *ℤ-one, one}
 use lib.ListN.{length, getD, length-map, List·getD-map}
 use lib.Seq.{ext-getD}
 use Rattle.lists.specs.Columns.{column}
 use Rattle.lists.proofs.Rows.{Even, column-at, column-byRow, length-byRow}
-use Rattle.signed.specs.Figures.{accountsOf}
+use Rattle.signed.specs.Figures.{atRate, accountsOf}
 
 -- each net at a rate: the nets themselves at 1, money at the tariff
-abbrev pub atRate : ℕ → List ℤ → List ℤ
-atRate rate nets = map (λ z. z *ℤ pos rate) nets
-
 pub at-rate : (rate : ℕ) (nets : List ℤ) (i : ℕ) → getD (atRate rate nets) i (pos 0) ≡ getD nets i (pos 0) *ℤ pos rate
 at-rate rate nets i =
     subst (λ d. getD (atRate rate nets) i d ≡ getD nets i (pos 0) *ℤ pos rate) (zero-*ℤ (pos rate))

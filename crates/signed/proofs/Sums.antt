@@ -1,13 +1,13 @@
 -- Columns of signed figures: their sums. Assumes nothing.
 use mathlib.Core.Path.{_≡_, refl, sym, ap, ap₂, _∙_}
-use Prim.Native.Nat.{ℕ, zero, suc, _+_}
+use Prim.Native.Nat.{ℕ, suc, _+_}
 use native.Mathlib.Omega.{arith}
 use mathlib.Core.List.{List, [], _∷_, map}
 use lib.IntN.{ℤ, pos, subℕ, _+ℤ_, _*ℤ_, +ℤ-idl, +ℤ-idr, zero-*ℤ}
 use lib.ListN.{getD}
 use Rattle.lists.specs.Lists.{sum, sumℤ}
 use Rattle.lists.specs.Columns.{rowwise, _⊕ℤ_}
-use Rattle.signed.proofs.View.{Less, less-plus, less-sub, less-pos, same-less, same-view, less-zero, plus-swap, times-plus}
+use Rattle.signed.proofs.View.{less-plus, less-sub, less-pos, same-less, same-view, less-zero, plus-swap, times-plus}
 
 pub sub-plus : (a b c d : ℕ) → subℕ a b +ℤ subℕ c d ≡ subℕ (a + c) (b + d)
 sub-plus a b c d = same-less (less-plus (less-sub a b) (less-sub c d)) (less-sub (a + c) (b + d))

@@ -15,8 +15,7 @@ use lib.Dec.{T, ltb}
 use lib.IntN.{ℤ, pos, negsuc, negℤ, natAbs, subℕ, _+ℤ_, _-ℤ_, _*ℤ_}
 use lib.Signed.{mag, ltZ, nonNeg, natAbs-le}
 use mir.Syntax.{w64}
-use mir.Val.{SFits, toZ, ofZ}
-use mir.Facts.{toZ-ofZ}
+use mir.Val.{SFits}
 
 abbrev pub up : ℤ → ℕ
 up (pos n) = n
@@ -166,6 +165,3 @@ abs-mag z h = natAbs-le z h
 
 pub sfits-abs : (z : ℤ) → natAbs z < 2 ^ 63 → SFits w64 z
 sfits-abs z h = record { sfits = lt-of-le-of-lt (mag-abs z) h }
-
-pub back : (z : ℤ) → natAbs z < 2 ^ 63 → toZ w64 (ofZ w64 z) ≡ z
-back z h = toZ-ofZ {w = w64} (sfits-abs z h)

@@ -10,6 +10,10 @@ use Rattle.lists.specs.Columns.{byRow}
 unfoldable pub isWithin : ℕ → ℤ → Bool
 isWithin bound z = leb (natAbs z) bound
 
--- net and money of each row, net before money: money is net × TEO
+-- nets at a rate: money is net × TEO
+abbrev pub atRate : ℕ → List ℤ → List ℤ
+atRate rate nets = map (λ z. z *ℤ pos rate) nets
+
+-- net and money of each row, net before money
 unfoldable pub accountsOf : ℕ → List ℤ → List ℤ
-accountsOf tariff nets = byRow (pos 0) (nets ∷ map (λ z. z *ℤ pos tariff) nets ∷ [])
+accountsOf tariff nets = byRow (pos 0) (nets ∷ atRate tariff nets ∷ [])

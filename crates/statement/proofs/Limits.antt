@@ -1,23 +1,23 @@
 -- What document 01's limits make of the statement's figures: sums that fit, and how long a statement can be. Assumes nothing.
-use mathlib.Core.Path.{_≡_, refl, sym, ap, subst, _∙_}
+use mathlib.Core.Path.{_≡_, sym, ap, subst, _∙_}
 use mathlib.Core.Bool.{true}
 use mathlib.Core.List.{List, [], _∷_, map}
-use Prim.Native.Nat.{ℕ, zero, suc, _+_, _-_, _*_, _^_, _≤_, _<_}
+use Prim.Native.Nat.{ℕ, zero, suc, _+_, _*_, _^_, _≤_, _<_}
 use native.Mathlib.Nat.{suc-mul, add-zero}
 use native.Mathlib.Omega.{arith}
 use lib.IntN.{ℤ, pos, negsuc, natAbs}
 use lib.ListN.{length, take, drop, getD, length-take}
-use lib.Seq.{getD-take, getD-drop}
+use lib.Seq.{getD-drop}
 use Rattle.lists.specs.Lists.{sum, Within}
 use Rattle.lists.specs.Columns.{four}
-use Rattle.figures.specs.Figures.{figure, minus, signedFigure, figureLength, signedFigureLength}
-use Rattle.figures.proofs.Decimal.{length-le, length-le-20, length-small}
+use Rattle.figures.specs.Figures.{minus, signedFigure, figureLength, signedFigureLength}
+use Rattle.figures.proofs.Decimal.{length-le, length-small}
 use Rattle.hour.specs.declared.Plant.{Plant}
 use Rattle.hour.specs.Table.{plantsOf}
 use Rattle.hour.proofs.Table.{length-plants}
-use Rattle.ledger.specs.Ledger.{Ledger, allottedIn, inBounds}
+use Rattle.ledger.specs.Ledger.{Ledger, allottedIn, inBounds, kwhBound, moneyBound}
 use Rattle.ledger.proofs.Bounds.{bounded, column-small}
-use Rattle.statement.specs.Statement.{statementText, roomFor}
+use Rattle.statement.specs.Statement.{roomFor}
 use Rattle.statement.specs.Lengths.{fieldsLength, leadingLength, plantLineLength, plantLinesLength, totalLineLength, statementLength}
 use Rattle.statement.specs.Writing.{Stateable}
 use Rattle.statement.specs.Laws.{InLimits, Promised}
@@ -26,10 +26,10 @@ use Rattle.statement.proofs.Text.{length-statement, text-columns}
 -- ---- sums
 
 module _ (l : Ledger) (e : inBounds l ≡ true) (k : length (l .allotted) ≤ 2048) where
-  pub columns-low : Within (four (λ s. sum (allottedIn s l))) (2048 * (1488 * 10 ^ 9))
+  pub columns-low : Within (four (λ s. sum (allottedIn s l))) (2048 * kwhBound)
   columns-low = record { at = low }
     where
-      low : (i : ℕ) → getD (four (λ s. sum (allottedIn s l))) i 0 ≤ 2048 * (1488 * 10 ^ 9)
+      low : (i : ℕ) → getD (four (λ s. sum (allottedIn s l))) i 0 ≤ 2048 * kwhBound
       low zero = column-small l e k 1
       low (suc zero) = column-small l e k 2
       low (suc (suc zero)) = column-small l e k 3
@@ -37,7 +37,7 @@ module _ (l : Ledger) (e : inBounds l ≡ true) (k : length (l .allotted) ≤ 20
       low (suc (suc (suc (suc i)))) = omega arith
 
   -- the sum of the four column sums
-  pub sum-low : sum (four (λ s. sum (allottedIn s l))) ≤ 8192 * (1488 * 10 ^ 9)
+  pub sum-low : sum (four (λ s. sum (allottedIn s l))) ≤ 8192 * kwhBound
   unfolding sum
   sum-low =
       let a = columns-low .at 0 in let b = columns-low .at 1 in let c = columns-low .at 2 in let d = columns-low .at 3 in
@@ -45,7 +45,7 @@ module _ (l : Ledger) (e : inBounds l ≡ true) (k : length (l .allotted) ≤ 20
 
 -- what `ledger::column_sums` asks, and that the sum of its answer fits
 module _ {ss ns : List ℕ} {l : Ledger} (ok : Stateable ss ns l) where
-  pub sums-asked : (length (l .allotted) ≤ 2048) × Within (l .allotted) (1488 * 10 ^ 9)
+  pub sums-asked : (length (l .allotted) ≤ 2048) × Within (l .allotted) kwhBound
   sums-asked = (omega (arith, ok .few, ok .even .figures), bounded l (ok .bounded) .allotted)
 
   pub sums-fit : {sums : List ℕ} → sums ≡ four (λ s. sum (allottedIn s l)) → sum sums < 2 ^ 64
@@ -59,10 +59,6 @@ unfolding signedFigureLength signedFigure minus figureLength
 signed-le (pos n) = omega arith
 signed-le (negsuc n) = omega arith
 
--- that of an `i64` takes at most 21 bytes
-pub signed-le-21 : (z : ℤ) → natAbs z ≤ 2 ^ 63 → signedFigureLength z ≤ 21
-signed-le-21 z h = omega (arith, signed-le z, length-le-20 (natAbs z) (omega arith))
-
 -- figures of at most d digits
 fields-le : (d : ℕ) (xs : List ℕ) → ((i : ℕ) → figureLength (getD xs i 0) ≤ d) → fieldsLength xs ≤ length xs * (d + 1)
 unfolding fieldsLength
@@ -71,8 +67,8 @@ fields-le d (x ∷ xs) h = omega (arith, h 0, fields-le d xs (λ i. h (suc i)), 
 
 -- an A line takes at most 101 bytes
 module _ (p : Plant) (figures : List ℕ) (net money : ℤ) where
-  plant-line-low : p .submarket ≤ 4 → p .number ≤ 999999 → length figures ≤ 4 → Within figures (1488 * 10 ^ 9) → natAbs net ≤ 1488 * 10 ^ 9
-      → natAbs money ≤ 1488 * 10 ^ 13 → plantLineLength p figures net money ≤ 101
+  plant-line-low : p .submarket ≤ 4 → p .number ≤ 999999 → length figures ≤ 4 → Within figures kwhBound → natAbs net ≤ kwhBound
+      → natAbs money ≤ moneyBound → plantLineLength p figures net money ≤ 101
   unfolding plantLineLength leadingLength fieldsLength
   plant-line-low s n k w a b =
       omega (arith, length-small (p .submarket) (omega arith), length-le 5 (p .number) (omega arith), fields-le 13 figures (λ i. length-le 12 (getD figures i 0) (omega (arith, w .at i))), signed-le net, length-le 12 (natAbs net) (omega arith), signed-le money, length-le 16 (natAbs money) (omega arith))
@@ -98,14 +94,14 @@ rows-less j b ac h i =
 
 -- the A lines take at most 101 bytes each
 plant-lines-low : (ps : List Plant) (al : List ℕ) (ac : List ℤ) → Within (map (λ (p : Plant). p .submarket) ps) 4 → Within (map (λ (p : Plant). p .number) ps) 999999
-    → Within al (1488 * 10 ^ 9) → Rows 0 (1488 * 10 ^ 9) ac → Rows 1 (1488 * 10 ^ 13) ac → plantLinesLength ps al ac ≤ 101 * length ps
+    → Within al kwhBound → Rows 0 kwhBound ac → Rows 1 moneyBound ac → plantLinesLength ps al ac ≤ 101 * length ps
 unfolding plantLinesLength
 plant-lines-low [] al ac s n w a b = omega arith
 plant-lines-low (p ∷ ps) al ac s n w a b =
-    omega (arith, plant-line-low p (take 4 al) (getD ac 0 (pos 0)) (getD ac 1 (pos 0)) (s .at 0) (n .at 0) (simp length-take (omega arith)) (first-four al (1488 * 10 ^ 9) w) (a 0) (b 0), plant-lines-low ps (drop 4 al) (drop 2 ac) (record { at = λ i. s .at (suc i) }) (record { at = λ i. n .at (suc i) }) (record { at = λ i. subst (λ (x : ℕ). x ≤ 1488 * 10 ^ 9) (sym (getD-drop 4 al i 0)) (w .at (4 + i)) }) (rows-less 0 (1488 * 10 ^ 9) ac a) (rows-less 1 (1488 * 10 ^ 13) ac b))
+    omega (arith, plant-line-low p (take 4 al) (getD ac 0 (pos 0)) (getD ac 1 (pos 0)) (s .at 0) (n .at 0) (simp length-take (omega arith)) (first-four al kwhBound w) (a 0) (b 0), plant-lines-low ps (drop 4 al) (drop 2 ac) (record { at = λ i. s .at (suc i) }) (record { at = λ i. n .at (suc i) }) (record { at = λ i. subst (λ (x : ℕ). x ≤ kwhBound) (sym (getD-drop 4 al i 0)) (w .at (4 + i)) }) (rows-less 0 kwhBound ac a) (rows-less 1 moneyBound ac b))
 
 -- the T line takes at most 96 bytes
-total-line-low : (settled plants : ℕ) (columns : List ℕ) → settled ≤ 744 → plants ≤ 512 → length columns ≤ 4 → Within columns (2048 * (1488 * 10 ^ 9)) → sum columns ≤ 8192 * (1488 * 10 ^ 9)
+total-line-low : (settled plants : ℕ) (columns : List ℕ) → settled ≤ 744 → plants ≤ 512 → length columns ≤ 4 → Within columns (2048 * kwhBound) → sum columns ≤ 8192 * kwhBound
     → totalLineLength settled plants columns ≤ 96
 unfolding totalLineLength leadingLength fieldsLength
 total-line-low settled plants columns h p k w t =
@@ -117,7 +113,7 @@ unfolding statementLength roomFor
 length-low settled plants l ok =
     let b = bounded l (ok .bounded) in
     let short : length (l .allotted) ≤ 2048 = omega (arith, ok .figures, ok .few) in
-    let rows : Rows 0 (1488 * 10 ^ 9) (l .accounts) = λ i. subst (λ (k : ℕ). natAbs (getD (l .accounts) k (pos 0)) ≤ 1488 * 10 ^ 9) (sym (add-zero (2 * i))) (b .net i) in
+    let rows : Rows 0 kwhBound (l .accounts) = λ i. subst (λ (k : ℕ). natAbs (getD (l .accounts) k (pos 0)) ≤ kwhBound) (sym (add-zero (2 * i))) (b .net i) in
     omega (arith, plant-lines-low plants (l .allotted) (l .accounts) (ok .submarkets) (ok .numbers) (b .allotted) rows (b .money), total-line-low settled (length plants) (four (λ s. sum (allottedIn s l))) (ok .periods) (ok .few) (omega arith) (columns-low l (ok .bounded) short) (sum-low l (ok .bounded) short))
 
 pub promised : Promised

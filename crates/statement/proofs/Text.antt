@@ -1,7 +1,7 @@
 -- Laws of the statement's text: its lines field by field, and how long they are. Assumes nothing.
 use mathlib.Core.Path.{_≡_, refl, sym, ap, ap₂, _∙_}
 use mathlib.Core.List.{List, [], _∷_, _++_, map, append-assoc}
-use Prim.Native.Nat.{ℕ, zero, suc, _+_, _-_, _*_, _≤_, _<_}
+use Prim.Native.Nat.{ℕ, _+_, _-_, _*_, _≤_, _<_}
 use native.Mathlib.Nat.{add-zero}
 use native.Mathlib.Numerals.{add-one}
 use native.Mathlib.Omega.{arith}
@@ -11,7 +11,7 @@ use lib.Seq.{drop-drop, getD-drop}
 use Rattle.lists.specs.Lists.{sum}
 use Rattle.lists.specs.Columns.{four}
 use Rattle.lists.proofs.Loops.{rest-more, rest-none}
-use Rattle.figures.specs.Figures.{figure, signedFigure, figureLength, signedFigureLength}
+use Rattle.figures.specs.Figures.{figure, signedFigure, commasBefore, byCommas, figureLength, signedFigureLength}
 use Rattle.hour.specs.declared.Plant.{Plant}
 use Rattle.hour.specs.Table.{plantsOf}
 use Rattle.hour.proofs.Table.{length-plants, row-at}
@@ -22,53 +22,34 @@ use Rattle.statement.specs.Lengths.{fieldsLength, leadingLength, plantLi
 
 -- ---- lines, field by field
 
--- the fields behind a line's first, each with a comma before it, and the line's end
-rest : List (List ℕ) → List ℕ
-rest [] = 10 ∷ []
-rest (g ∷ gs) = 44 ∷ (g ++ rest gs)
-
-line-rest : (f : List ℕ) (gs : List (List ℕ)) → line (f ∷ gs) ≡ f ++ rest gs
-unfolding line rest
-line-rest f [] = refl
-line-rest f (g ∷ gs) = ap (λ (l : List ℕ). f ++ (44 ∷ l)) (line-rest g gs)
-
-figures-rest : (xs : List ℕ) (gs : List (List ℕ)) → rest (map figure xs ++ gs) ≡ fieldsText xs ++ rest gs
-unfolding rest fieldsText
-figures-rest [] gs = refl
-figures-rest (x ∷ xs) gs =
-    ap (λ (l : List ℕ). 44 ∷ (figure x ++ l)) (figures-rest xs gs) ∙ sym (append-assoc (44 ∷ figure x) (fieldsText xs) (rest gs))
+-- figures behind a line's letter, and the fields behind them
+line-is : (letter : ℕ) (xs : List ℕ) (gs : List (List ℕ)) → line ((letter ∷ []) ∷ (map figure xs ++ gs)) ≡ (letter ∷ fieldsText xs) ++ (commasBefore gs ++ (10 ∷ []))
+unfolding line byCommas fieldsText commasBefore
+line-is letter xs gs = ap (λ (l : List ℕ). letter ∷ l) (behind xs)
+  where
+    behind : (xs : List ℕ) → commasBefore (map figure xs ++ gs) ++ (10 ∷ []) ≡ commasBefore (map figure xs) ++ (commasBefore gs ++ (10 ∷ []))
+    behind [] = refl
+    behind (x ∷ xs) = ap (λ (l : List ℕ). 44 ∷ l) (append-assoc (figure x) (commasBefore (map figure xs ++ gs)) (10 ∷ []) ∙ ap (λ (l : List ℕ). figure x ++ l) (behind xs) ∙ sym (append-assoc (figure x) (commasBefore (map figure xs)) (commasBefore gs ++ (10 ∷ []))))
 
 -- the fields of the figures from i on
 pub fields-more : (xs : List ℕ) (i : ℕ) → i < length xs → fieldsText (drop i xs) ≡ (44 ∷ figure (getD xs i 0)) ++ fieldsText (drop (i + 1) xs)
-unfolding fieldsText
+unfolding fieldsText commasBefore
 fields-more xs i h = rest-more fieldsText xs i 0 h
 
 pub fields-none : (xs : List ℕ) (i : ℕ) → length xs ≤ i → fieldsText (drop i xs) ≡ []
-unfolding fieldsText
+unfolding fieldsText commasBefore
 fields-none xs i h = rest-none fieldsText xs i h
-
-pub fields-length-more : (xs : List ℕ) (i : ℕ) → i < length xs → fieldsLength (drop i xs) ≡ figureLength (getD xs i 0) + 1 + fieldsLength (drop (i + 1) xs)
-unfolding fieldsLength
-fields-length-more xs i h = rest-more fieldsLength xs i 0 h
-
-pub fields-length-none : (xs : List ℕ) (i : ℕ) → length xs ≤ i → fieldsLength (drop i xs) ≡ 0
-unfolding fieldsLength
-fields-length-none xs i h = rest-none fieldsLength xs i h
 
 -- the parts of an A line, and of the T line
 pub plant-line-is : (p : Plant) (figures : List ℕ) (net money : ℤ)
     → plantLine p figures net money ≡ leading 65 (p .submarket) (p .number) figures ++ ((44 ∷ signedFigure net) ++ ((44 ∷ signedFigure money) ++ (10 ∷ [])))
-unfolding plantLine leading rest
-plant-line-is p figures net money =
-    line-rest (65 ∷ []) (figure (p .submarket) ∷ figure (p .number) ∷ (map figure figures ++ (signedFigure net ∷ signedFigure money ∷ [])))
-    ∙ ap (λ (l : List ℕ). 65 ∷ l) (figures-rest (p .submarket ∷ p .number ∷ figures) (signedFigure net ∷ signedFigure money ∷ []))
+unfolding plantLine leading commasBefore
+plant-line-is p figures net money = line-is 65 (p .submarket ∷ p .number ∷ figures) (signedFigure net ∷ signedFigure money ∷ []) ∙ simp append-assoc
 
 pub total-line-is : (settled plants : ℕ) (columns : List ℕ)
     → totalLine settled plants columns ≡ leading 84 settled plants columns ++ ((44 ∷ figure (sum columns)) ++ (10 ∷ []))
-unfolding totalLine leading rest
-total-line-is settled plants columns =
-    line-rest (84 ∷ []) (figure settled ∷ figure plants ∷ (map figure columns ++ (figure (sum columns) ∷ [])))
-    ∙ ap (λ (l : List ℕ). 84 ∷ l) (figures-rest (settled ∷ plants ∷ columns) (figure (sum columns) ∷ []))
+unfolding totalLine leading commasBefore
+total-line-is settled plants columns = line-is 84 (settled ∷ plants ∷ columns) (figure (sum columns) ∷ []) ∙ simp append-assoc
 
 -- ---- the A lines, row by row
 
@@ -126,7 +107,7 @@ row-line ss ns al ac i e f =
 -- ---- lengths
 
 pub length-fields : (xs : List ℕ) → length (fieldsText xs) ≡ fieldsLength xs
-unfolding fieldsText fieldsLength figureLength
+unfolding fieldsText commasBefore fieldsLength figureLength
 length-fields [] = refl
 length-fields (x ∷ xs) = length-append (44 ∷ figure x) (fieldsText xs) ∙ omega (arith, length-fields xs)
 
@@ -148,17 +129,6 @@ length-plant-lines [] allotted accounts = refl
 length-plant-lines (p ∷ ps) allotted accounts =
     length-append (plantLine p (take 4 allotted) (getD accounts 0 (pos 0)) (getD accounts 1 (pos 0))) (plantLines ps (drop 4 allotted) (drop 2 accounts))
     ∙ ap₂ _+_ (length-plant-line p (take 4 allotted) (getD accounts 0 (pos 0)) (getD accounts 1 (pos 0))) (length-plant-lines ps (drop 4 allotted) (drop 2 accounts))
-
--- ... of the rows from i on
-module _ (ss ns al : List ℕ) (ac : List ℤ) where
-  pub lengths-all : length (linesFrom ss ns al ac 0) ≡ plantLinesLength (plantsOf ss ns [] [] []) al ac
-  lengths-all = ap length (sym (lines-all ss ns al ac)) ∙ length-plant-lines (plantsOf ss ns [] [] []) al ac
-
-  pub lengths-more : (i : ℕ) → i < length ss → length (linesFrom ss ns al ac i) ≡ length (rowLine ss ns al ac i) + length (linesFrom ss ns al ac (i + 1))
-  lengths-more i h = ap length (lines-more ss ns al ac i h) ∙ length-append (rowLine ss ns al ac i) (linesFrom ss ns al ac (i + 1))
-
-  pub lengths-none : (i : ℕ) → length ss ≤ i → length (linesFrom ss ns al ac i) ≡ 0
-  lengths-none i h = ap length (lines-none ss ns al ac i h)
 
 -- the statement takes as many bytes as its length says
 pub length-statement : (settled : ℕ) (plants : List Plant) (l : Ledger) → length (statementText settled plants l) ≡ statementLength settled plants l

@@ -1,4 +1,4 @@
--- The statement, byte for byte (document 01, 'The file and its statement'). Bytes are numbers: `,` is 44, the line's end 10, `A` 65, `T` 84.
+-- The statement, byte for byte (document 01, 'The file and its statement'). Bytes are numbers: the line's end is 10, `A` 65, `T` 84.
 -- Assumes nothing.
 use Prim.Native.Nat.{ℕ, _+_, _*_}
 use mathlib.Core.List.{List, [], _∷_, _++_, map}
@@ -6,15 +6,13 @@ use lib.IntN.{ℤ, pos}
 use lib.ListN.{length, take, drop, getD}
 use Rattle.lists.specs.Lists.{sum}
 use Rattle.lists.specs.Columns.{four}
-use Rattle.figures.specs.Figures.{figure, signedFigure}
+use Rattle.figures.specs.Figures.{figure, signedFigure, byCommas}
 use Rattle.hour.specs.declared.Plant.{Plant}
 use Rattle.ledger.specs.Ledger.{Ledger, allottedWidth, accountsWidth, allottedIn}
 
 -- a line of text: fields parted by commas, and the byte 10 at its end
 unfoldable pub line : List (List ℕ) → List ℕ
-line [] = 10 ∷ []
-line (f ∷ []) = f ++ (10 ∷ [])
-line (f ∷ g ∷ fs) = f ++ (44 ∷ line (g ∷ fs))
+line fs = byCommas fs ++ (10 ∷ [])
 
 -- 'A: submarket, number, four ledger figures, net, money'
 unfoldable pub plantLine : Plant → List ℕ → ℤ → ℤ → List ℕ

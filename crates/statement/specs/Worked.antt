@@ -5,7 +5,7 @@ use mathlib.Core.List.{List, [], _∷_, _++_}
 use lib.IntN.{pos, negsuc}
 use Rattle.lists.specs.Lists.{sum}
 use Rattle.lists.specs.Columns.{column}
-use Rattle.figures.specs.Figures.{digits, figure, minus, signedFigure}
+use Rattle.figures.specs.Figures.{digits, figure, minus, signedFigure, commasBefore, byCommas}
 use Rattle.hour.specs.declared.Plant.{Plant}
 use Rattle.ledger.specs.Ledger.{Ledger}
 use Rattle.statement.specs.Statement.{line, plantLine, plantLines, totalLine, statementText}
@@ -44,5 +44,5 @@ abbrev pub total : List ℕ
 total = 84 ∷ 44 ∷ 49 ∷ 44 ∷ 51 ∷ 44 ∷ 49 ∷ 53 ∷ 48 ∷ 44 ∷ 51 ∷ 48 ∷ 44 ∷ 48 ∷ 44 ∷ 48 ∷ 44 ∷ 49 ∷ 56 ∷ 48 ∷ 10 ∷ []
 
 pub worked : statementText 1 plants ledger ≡ first ++ (second ++ (third ++ total))
-unfolding sum column digits figure minus signedFigure line plantLine plantLines totalLine statementText
+unfolding sum column digits figure minus signedFigure commasBefore byCommas line plantLine plantLines totalLine statementText
 worked = refl

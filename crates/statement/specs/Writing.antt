@@ -1,19 +1,18 @@
 -- Bytes written to a place of a lent text. Assumes nothing.
 use mathlib.Core.Path.{_≡_}
 use mathlib.Core.Bool.{true}
-use mathlib.Core.List.{List, [], _∷_, _++_}
+use mathlib.Core.List.{List, _∷_, _++_, map}
 use Prim.Native.Nat.{ℕ, _+_, _*_, _≤_}
 use lib.IntN.{ℤ, pos}
 use lib.ListN.{length, take, drop, getD}
-use Rattle.figures.specs.Figures.{figure}
+use Rattle.figures.specs.Figures.{figure, commasBefore}
 use Rattle.hour.specs.declared.Plant.{Plant}
 use Rattle.ledger.specs.Ledger.{Ledger, allottedWidth, accountsWidth, inBounds}
 use Rattle.statement.specs.Statement.{plantLine}
 
 -- figures, each with a comma before it
 unfoldable pub fieldsText : List ℕ → List ℕ
-fieldsText [] = []
-fieldsText (x ∷ xs) = (44 ∷ figure x) ++ fieldsText xs
+fieldsText xs = commasBefore (map figure xs)
 
 -- how A and T lines begin: a letter, two figures, and a list of figures
 unfoldable pub leading : ℕ → ℕ → ℕ → List ℕ → List ℕ

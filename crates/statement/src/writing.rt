@@ -1,5 +1,4 @@
 // The statement's lines, written from a position on. Every function answers the position behind what it wrote.
-ghost use mathlib.Core.Path.{_≡_};
 ghost use mathlib.Core.List.{[]};
 ghost use Prim.Native.Nat.{_≤_, _<_, _^_};
 ghost use lib.ListN.{length};
@@ -110,27 +109,13 @@ fn write_plant_lines(
     end
 }
 
-// The sum of the columns.
-pub fn sum_of(columns: &[u64]) -> u64
-    requires { ⌜ sum (now columns) < 2 ^ 64 ⌝ }
-    ensures { λ r. ⌜ r ≡ sum (now (columns .entry)) ⌝ }
-{
-    let mut total: u64 = 0;
-    let mut column: usize = 0;
-    while column < columns.len() {
-        total += columns[column];
-        column += 1;
-    }
-    total
-}
-
 // The T line: periods settled, P, column sums, their sum.
 fn write_total_line(settled: u64, plants: u64, columns: &[u64], text: &mut [u8], at: usize) -> usize
     requires { ⌜ sum (now columns) < 2 ^ 64 ⌝ }
     requires { ⌜ Room (totalLine settled plants (now columns)) at (now text) ⌝ }
     ensures { λ r. ⌜ Wrote (totalLine settled plants (now (columns .entry))) at (now (text .entry)) (now (text .exit)) r ⌝ }
 {
-    let total = sum_of(columns);
+    let total = lists::sum_of(columns);
     let end = write_leading(b'T', settled, plants, columns, text, at);
     let end = write_field(total, text, end);
     write_byte(b'\n', text, end)

@@ -2,17 +2,17 @@
 use mathlib.Core.Path.{_≡_}
 use mathlib.Core.Bool.{true}
 use mathlib.Core.List.{List, []}
-use Prim.Native.Nat.{ℕ, _*_, _^_, _≤_, _<_}
+use Prim.Native.Nat.{ℕ, _^_, _≤_, _<_}
 use native.Mathlib.Omega.{arith}
 use borrow.Author.Tests.{leb-true, le-leb}
 use lib.ListN.{length}
-use Rattle.lists.specs.Lists.{sum, atMost}
+use Rattle.lists.specs.Lists.{sum, most, atMost}
 use Rattle.lists.proofs.Questions.{asked, both, yes, all-yes, and-both, sum-at-most}
 use Rattle.transfer.specs.Calls.{apart, transferNumber}
 
 pub record Transferable (left need : List ℕ) : Type 0 where
-  pub leftHourly : atMost (2 * 10 ^ 9) left ≡ true
-  pub needHourly : atMost (2 * 10 ^ 9) need ≡ true
+  pub leftHourly : atMost most left ≡ true
+  pub needHourly : atMost most need ≡ true
   pub enough : sum need ≤ sum left
   pub noBoth : apart left need ≡ true
 
@@ -31,5 +31,5 @@ module _ (left need : List ℕ) where
       yes _ 23 [] 0 (and-both _ _ (t .leftHourly) (and-both _ _ (t .needHourly) (and-both _ _ (le-leb (sum need) (sum left) (t .enough)) (t .noBoth)))) all-yes
 
 -- four figures in limits add up to less than the weights' limit
-pub small : (xs : List ℕ) → length xs ≡ 4 → atMost (2 * 10 ^ 9) xs ≡ true → sum xs < 2 ^ 62
-small xs e h = omega (arith, sum-at-most xs (2 * 10 ^ 9) h)
+pub small : (xs : List ℕ) → length xs ≡ 4 → atMost most xs ≡ true → sum xs < 2 ^ 62
+small xs e h = omega (arith, sum-at-most xs most h)

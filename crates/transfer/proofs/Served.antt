@@ -11,7 +11,7 @@ use Rattle.lists.proofs.Columns.{_!_, length-rowwise, at-⊕, at-⊖, sum-⊖, 
 use Rattle.sharing.specs.Sharing.{Rule}
 use Rattle.transfer.specs.Transfer.{serve, transfer}
 use Rattle.sharing.specs.Laws.{Lawful}
-use Rattle.transfer.specs.Laws.{Served, Transfers, rowSum}
+use Rattle.transfer.specs.Laws.{Served, Transfers}
 use Rattle.sharing.proofs.Sharing.{adds-le}
 
 pub length-serve : {A : Type 0} (f : A → List ℕ → List ℕ) (ws : List ℕ) (ts : List A) → length (serve f ws ts) ≡ length ts
@@ -100,10 +100,6 @@ four-⊖ xs ys p q = sym (rw (four-is 0 xs p, four-is 0 ys q))
 pub four-sum : (xs : List ℕ) → length xs ≡ 4 → xs ! 0 + xs ! 1 + xs ! 2 + xs ! 3 ≡ sum xs
 unfolding sum
 four-sum xs p = sym (ap sum (four-is 0 xs p) ∙ omega arith)
-
--- the rows of a table of four by four
-pub row-sum : (table : List (List ℕ)) (g : ℕ) → length (getD table g []) ≡ 4 → rowSum table g ≡ sum (getD table g [])
-row-sum table g p = four-sum (getD table g []) p
 
 -- four columns of four as rows
 pub turned : (a b c d : List ℕ) → length a ≡ 4 → length b ≡ 4 → length c ≡ 4 → length d ≡ 4

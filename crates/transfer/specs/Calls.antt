@@ -1,9 +1,9 @@
 -- The public call: its question, and what it answers in every case (document 01, 'Calls' and 'The questions'). Assumes nothing.
 use mathlib.Core.Bool.{Bool, _&&_}
 use mathlib.Core.List.{List, [], _∷_}
-use Prim.Native.Nat.{ℕ, _*_, _^_}
+use Prim.Native.Nat.{ℕ}
 use lib.Dec.{leb, eqb}
-use Rattle.lists.specs.Lists.{sum, every, atMost}
+use Rattle.lists.specs.Lists.{sum, most, every, atMost}
 use Rattle.lists.specs.Columns.{_⊓_, four}
 use Rattle.lists.specs.Questions.{_⁇_, firstNo, outcome}
 use Rattle.sharing.specs.Sharing.{share}
@@ -18,7 +18,7 @@ apart left need = every (λ x. eqb x 0) (left ⊓ need)
 unfoldable pub transferNumber : List ℕ → List ℕ → ℕ
 transferNumber left need =
     firstNo
-    ((atMost (2 * 10 ^ 9) left && (atMost (2 * 10 ^ 9) need && (leb (sum need) (sum left) && apart left need))) ⁇ 23
+    ((atMost most left && (atMost most need && (leb (sum need) (sum left) && apart left need))) ⁇ 23
     ∷ [])
 
 abbrev pub noTable : List (List ℕ)

@@ -1,10 +1,10 @@
 -- `cover::meet` meets its contract: each call is what the definitions say. Assumes nothing.
 use mathlib.Core.Path.{_≡_, sym, ap, ap₂, _∙_, subst, subst₂}
 use mathlib.Core.List.{List, [], _∷_}
-use Prim.Native.Nat.{ℕ, _-_, _*_, _^_, _≤_}
+use Prim.Native.Nat.{ℕ, _-_, _≤_}
 use native.Mathlib.Omega.{arith}
 use lib.ListN.{length}
-use Rattle.lists.specs.Lists.{sum}
+use Rattle.lists.specs.Lists.{sum, most}
 use Rattle.lists.specs.Columns.{_⊖_, _⊓_, Below, four, totals}
 use Rattle.sharing.specs.Sharing.{share}
 use Rattle.transfer.specs.Transfer.{serve, transfer}
@@ -41,7 +41,7 @@ module _ (c : tie.Start) where
   four-have : length have ≡ 4
   four-have = c .good .1 .0 .1 .0 .1
 
-  small : sum want ≤ 2 * 10 ^ 9
+  small : sum want ≤ most
   small = omega arith
 
   room : Room want (c .args .figures .now)

@@ -10,8 +10,7 @@ use mir.Val.{toZ, ofZ}
 use Rattle.lists.specs.Columns.{_⊕ℤ_, column}
 use Rattle.lists.proofs.Loops.{Passing, passing, passing-more, halted, passed}
 use Rattle.lists.proofs.Questions.{refused, granted}
-use Rattle.signed.specs.Figures.{isWithin}
-use Rattle.signed.proofs.Accounts.{atRate}
+use Rattle.signed.specs.Figures.{isWithin, atRate}
 use Rattle.signed.proofs.Machine.{read-is, result-is}
 use Rattle.ledger.specs.Ledger.{accountsWidth}
 use Rattle.ledger.proofs.Posting.{rated-small, length-after, after-at}

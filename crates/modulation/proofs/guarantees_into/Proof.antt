@@ -6,7 +6,8 @@ use native.Mathlib.Nat.{le-trans}
 use Rattle.lists.specs.Lists.{table}
 use Rattle.lists.proofs.Loops.{Tabling}
 use Rattle.lists.proofs.Written.{written, written-all}
-use Rattle.modulation.specs.Totals.{Consecutive, guaranteeWith, partBy}
+use Rattle.modulation.specs.Guarantee.{guaranteeWith}
+use Rattle.modulation.specs.Totals.{Consecutive, partBy}
 use Rattle.modulation.proofs.guarantees_into.Statement.{statement}
 use Rattle.modulation.proofs.guarantees_into.Tie as tie
 

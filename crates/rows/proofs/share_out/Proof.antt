@@ -3,7 +3,8 @@ use Prim.Native.Nat.{ℕ, _-_}
 use native.Mathlib.Omega.{arith}
 use borrow.Author.Needs.{needs}
 use Rattle.lists.specs.Lists.{sum}
-use Rattle.rows.specs.Steps.{coveredOf, rightsOf}
+use Rattle.sharing.specs.Sharing.{share}
+use Rattle.rows.specs.Steps.{coveredBy, rightsBy}
 use Rattle.rows.proofs.share_out.Statement.{statement}
 use Rattle.rows.proofs.share_out.Tie as tie
 
@@ -13,8 +14,8 @@ returns c =
     let a = start .args .a .now in let g = start .args .metered .now in
     let gt : c .before .before .before .before .before .before .before .before .before .weights-total .result ≡ sum g = c .before .before .before .before .before .before .before .before .before .weights-total .ensures ∙ (omega arith) in
     let z : c .before .before .before .before .before .before .before .before .over .result ≡ sum g - sum a = c .before .before .before .before .before .before .before .before .over .ensures ∙ ap₂ _-_ gt (start .pre .0 .0) in (
-      c .before .before .before .before .before .before .covered-into .ensures ∙ ap (λ (t : ℕ). coveredOf t a) gt,
-      (c .before .before .rights-into .ensures ∙ ap (λ (t : ℕ). rightsOf t a g) z, z),
+      c .before .before .before .before .before .before .covered-into .ensures ∙ ap (λ (t : ℕ). coveredBy share t a) gt,
+      (c .before .before .rights-into .ensures ∙ ap (λ (t : ℕ). rightsBy share t a g) z, z),
     )
 
 pub share-out-spec : {M : Type 1} → statement M

@@ -5,7 +5,7 @@ use native.Mathlib.Omega.{arith}
 use borrow.Author.Needs.{needs}
 use lib.IntN.{pos, natAbs, _-ℤ_}
 use mir.Syntax.{w64}
-use mir.Val.{toZ, ofZ}
+use mir.Val.{toZ}
 use Rattle.signed.proofs.View.{abs-minus, net-is}
 use Rattle.signed.proofs.Machine.{cast-is, op-fits, op-is}
 use Rattle.signed.proofs.net_of.Statement.{statement}

@@ -4,7 +4,7 @@ use mathlib.Core.List.{List, []}
 use Prim.Native.Nat.{ℕ, _<_}
 use native.Mathlib.Omega.{arith}
 use borrow.Author.Tests.{lt-leb}
-use Rattle.lists.specs.Lists.{sum, atMost}
+use Rattle.lists.specs.Lists.{sum, most, atMost}
 use Rattle.lists.proofs.Questions.{asks, granted, no, and-first, and-second}
 use Rattle.transfer.specs.Calls.{apart, transferNumber}
 use Rattle.transfer.proofs.Asked.{small, is-transferable}
@@ -18,7 +18,7 @@ use Rattle.sharing.proofs.weights_total.Reads as weights-total-reads
 module _ (left need : List ℕ) where
   too-much : sum left < sum need → 23 ≡ transferNumber left need
   unfolding transferNumber
-  too-much h = no _ 23 [] (and-second (atMost 2000000000 left) _ (and-second (atMost 2000000000 need) _ (and-first _ (apart left need) (lt-leb (sum need) (sum left) h))))
+  too-much h = no _ 23 [] (and-second (atMost most left) _ (and-second (atMost most need) _ (and-first _ (apart left need) (lt-leb (sum need) (sum left) h))))
 
 returns : tie.Need-returns
 unfolding transferNumber

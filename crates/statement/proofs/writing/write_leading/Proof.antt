@@ -4,7 +4,7 @@ use mathlib.Core.List.{List, [], _∷_, _++_}
 use Prim.Native.Nat.{ℕ}
 use native.Mathlib.Omega.{arith}
 use borrow.Author.Needs.{needs}
-use Rattle.figures.specs.Figures.{figure, figureLength}
+use Rattle.figures.specs.Figures.{figure, commasBefore, figureLength}
 use Rattle.statement.specs.Writing.{fieldsText, leading}
 use Rattle.statement.proofs.Parts.{Left, left-all, left-room, left-more, left-fits, left-last}
 use Rattle.statement.proofs.writing.write_leading.Statement.{statement}
@@ -21,7 +21,7 @@ abbrev first : tie.Start → List ℕ
 first s = (44 ∷ figure (s .args .x)) ++ second s
 
 at-start : (s : tie.Start) → Rest s (s .args .at) (s .args .text .now) ((s .args .letter ∷ []) ++ first s)
-unfolding leading fieldsText
+unfolding leading fieldsText commasBefore
 at-start s = left-all (s .pre)
 
 at-first : (c : tie.After-write-byte) → let s = c .before .before .before .before in Rest s (c .write-byte .result) (c .write-byte .last .1 .0) (first s)

@@ -1,15 +1,15 @@
--- `writing::sum_of` meets its contract. Assumes nothing.
+-- `lists::sum_of` meets its contract. Assumes nothing.
 use Prim.Native.Nat.{_-_}
 use lib.ListN.{length}
 use Rattle.lists.proofs.Loops.{loops, Adding}
-use Rattle.statement.proofs.writing.sum_of.Statement.{statement}
-use Rattle.statement.proofs.writing.sum_of.Tie as tie
+use Rattle.lists.proofs.sum_of.Statement.{statement}
+use Rattle.lists.proofs.sum_of.Tie as tie
 
 abbrev Inv-loop : tie.InvT-loop
-Inv-loop columns total₀ column₀ total column = Adding columns column total
+Inv-loop figures total₀ at₀ total at = Adding figures at total
 
 abbrev μ-loop : tie.MeasureT-loop
-μ-loop columns total₀ column₀ total column = length columns - column
+μ-loop figures total₀ at₀ total at = length figures - at
 
 pub sum-of-spec : {M : Type 1} → statement M
 sum-of-spec =

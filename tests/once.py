@@ -1,9 +1,10 @@
 """Holds the crates to two rules: nothing stands that nobody uses, and nothing stands twice.
 
 Used is what is reached by name from what readers and the prover begin with: a contract, the proof of a function, a theorem that
-docs/RULES.md names; and of the code an exported function, `main`, or a call of document 01 for callers in Rattle. Twice is a run
-of six lines that stands in two places. The walks by hand over plant records are alike from end to end, so one tool writes them:
-each of them has to be what tools/outer.py writes. The last line is 'N passed, M failed'.
+docs/RULES.md names; and of the code an exported function, `main`, or a call of document 01 for callers in Rattle. A name that a `use`
+line takes is used where its file names it. Twice is a run of six lines that stands in two places. The walks by hand over plant
+records are alike from end to end, so one tool writes them: each of them has to be what tools/outer.py writes. The last line is
+'N passed, M failed'.
 
 Names are looked up as words: a lemma that has the name of a local variable of its file passes."""
 import collections
@@ -92,8 +93,10 @@ class Source:
         for line in text.splitlines():
             if line.startswith("ghost use "):
                 self.use(line[6:].rstrip(";"))
+            elif taken := re.match(r"use (?:\w+::)*(\w+);", line):
+                self.names[taken[1]] = (None, taken[1])
             else:
-                self.words[""].update(WORD.findall(line))
+                self.words[""].update(WORD.findall(line), re.findall(r"\w+", line))
 
     def text(self, text):
         around, heading = [], False
@@ -206,6 +209,14 @@ def laws():
             yield (path, name) in seen, f"{place(path, line)}: nothing that is used names {name}"
 
 
+def imports():
+    """Every name that a `use` line takes is named in its file."""
+    for path, source in sources().items():
+        words = set().union(*source.words.values())
+        for name in [*source.names, *source.modules]:
+            yield stands(name, words), f"{path.relative_to(ROOT)}: a `use` line takes {name}, which nothing there names"
+
+
 # ---- functions
 
 
@@ -312,7 +323,7 @@ def twice(left_out):
 def main():
     made = written()
     failed, passed = 0, 0
-    for good, what in itertools.chain(laws(), functions(), walks(made), twice(made)):
+    for good, what in itertools.chain(laws(), imports(), functions(), walks(made), twice(made)):
         passed += good
         failed += not good
         if not good:

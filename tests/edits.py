@@ -21,8 +21,9 @@ FACT = re.compile(
     r"`(omega|search|rw|simp|cc|grw)`(:| does not read)|it is not proved that|give a proof of that as the last argument"
     r"|the two (types|values|sides) (first )?differ|expected type `[^` ]+ [^`]*`"
 )
-# A value of another type is no fact, nor is a need in another's place: there the proof file no longer fits the code.
-NO_FACT = re.compile(r"expected type `([^` ]*\.)?(ℕ|ℤ|Bool|List|Type|Need-[^` ]*)[ `]")
+# Two types that differ are both facts, or nothing is shown: where one is that of a value, or a need by its name, the proof file no longer
+# fits the code.
+NO_FACT = re.compile(r"(expected|has) type `\(*([^` ]*\.)?(ℕ|ℤ|Bool|List|Type)[ `]|(?<![\w-])Need-")
 NO_NAME = re.compile(r"that can be named from here|has no field|is not in scope:|no module is found")
 AFTER = re.compile(r"was not admitted \(")
 

@@ -182,7 +182,9 @@ use denote.Exit.{yes}""")
     A(f"  abbrev bound : walkOf 𝓤 H A f.ended stayed (f.clauses 𝓤 H A mem run) .Ghost\n  bound = (({kt}, {qt}, tt, {args}, at), tt)\n")
     A("  abbrev Post : Val → SProp 𝓤\n  Post = walkOf 𝓤 H A f.ended stayed (f.clauses 𝓤 H A mem run) .post bound\n")
     A("  -- what each parameter owns")
-    for i in range(k): A(f"  abbrev Own{i} : Fml\n  Own{i} = {own(i)}\n")
+    for i, p in enumerate(P):
+        # what a number owns is made anew at the exit
+        if p["kind"] != "num": A(f"  abbrev Own{i} : Fml\n  Own{i} = {own(i)}\n")
     def tok(i): return f"‵ (flft κ{life[i]} q{life[i]})"
     def chain(xs):
         s = xs[-1]

@@ -1,5 +1,6 @@
 -- Laws of lines.
 pub mod Commas
+pub mod Parts
 pub mod Starts
 pub mod Lines
 pub mod Accepted

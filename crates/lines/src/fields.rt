@@ -2,7 +2,7 @@
 ghost use mathlib.Core.Path.{_≡_};
 ghost use Prim.Native.Nat.{_+_, _≤_};
 ghost use lib.ListN.{length, drop};
-ghost use Rattle.lines.specs.Fields.{nextComma, fieldNumber, fieldBytes};
+ghost use Rattle.lines.specs.Fields.{nextComma, fieldNumber, fieldBytes, fieldStart, Part};
 ghost use Rattle.lines.specs.Inner.{firstField, Starts};
 
 // The most bytes that a line may have.
@@ -25,7 +25,7 @@ pub fn next_comma(line: &[u8], from: usize) -> usize
 // The field that starts at a position: its bytes, a part of the line.
 pub fn field_at(line: &[u8], from: usize) -> &[u8]
     requires { ⌜ from ≤ length (now line) ⌝ }
-    ensures { λ r. ⌜ now r ≡ firstField (drop from (now (line .entry))) ⌝ }
+    ensures { λ r. ⌜ Part (line .entry) r from (firstField (drop from (now (line .entry)))) ⌝ }
 {
     let end = next_comma(line, from);
     &line[from..end]
@@ -64,7 +64,7 @@ pub fn field_number(line: &[u8], index: u64) -> u64
 
 // The field's bytes, a part of the line; refused, an empty one.
 fn field_bytes(line: &[u8], index: u64) -> &[u8]
-    ensures { λ r. ⌜ now r ≡ fieldBytes (now (line .entry)) index ⌝ }
+    ensures { λ r. ⌜ Part (line .entry) r (fieldStart (now (line .entry)) index) (fieldBytes (now (line .entry)) index) ⌝ }
 {
     if LONGEST < line.len() {
         return &line[0..0];
@@ -83,7 +83,7 @@ pub struct FieldPart<'a> {
 
 // The field call: the number, and the field's bytes as a part of the line.
 pub fn field<'a>(line: &'a [u8], index: u64) -> FieldPart<'a>
-    ensures { λ r. ⌜ (r .number ≡ fieldNumber (now (line .entry)) index) × (now (r .bytes) ≡ fieldBytes (now (line .entry)) index) ⌝ }
+    ensures { λ r. ⌜ (r .number ≡ fieldNumber (now (line .entry)) index) × Part (line .entry) (r .bytes) (fieldStart (now (line .entry)) index) (fieldBytes (now (line .entry)) index) ⌝ }
 {
     let number = field_number(line, index);
     let bytes = field_bytes(line, index);

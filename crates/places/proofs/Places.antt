@@ -1,61 +1,21 @@
 -- A field by its start and its length. Assumes nothing.
 use mathlib.Core.Path.{_≡_, refl, sym, ap, _∙_}
 use mathlib.Core.Bool.{Bool, true, false}
-use mathlib.Core.List.{List, [], _∷_, _++_, map}
+use mathlib.Core.List.{List, []}
 use Prim.Native.Nat.{ℕ, zero, suc, _+_, _-_, _≤_, _<_, zero-le}
 use native.Mathlib.Omega.{arith}
 use borrow.Author.Tests.{ltb-true, leb-true, leb-false}
-use lib.Dec.{eqb, leb}
-use lib.ListN.{length, take, drop, getD, length-drop, take-append-drop}
-use Rattle.lists.specs.Lists.{sum}
+use lib.Dec.{leb}
+use lib.ListN.{length, take, drop, getD}
 use Rattle.lists.specs.Questions.{outcome}
-use Rattle.lists.proofs.Questions.{asked, refuses, accepts}
-use Rattle.lists.proofs.Sums.{sum-append}
-use Rattle.lines.specs.Fields.{nextComma, toFirst, fields, fieldNumber, fieldBytes}
-use Rattle.lines.specs.Inner.{Starts}
-use Rattle.lines.proofs.Commas.{next-high, field-long, fields-more, fields-last, fields-some, field-part, field-absent, field-there}
+use Rattle.lists.proofs.Questions.{asked}
+use Rattle.lines.specs.Fields.{nextComma, fields, fieldNumber, fieldBytes, startOf, fieldStart}
+use Rattle.lines.specs.Inner.{firstField, Starts}
+use Rattle.lines.proofs.Commas.{next-high, field-long, fields-more, fields-last, field-part, field-absent, field-there, bytes-none, bytes-there}
+use Rattle.lines.proofs.Parts.{starts-there, start-none, start-there}
 use Rattle.places.specs.declared.FieldPlace.{FieldPlace}
-use Rattle.places.specs.Parts.{startOf, fieldPlace}
+use Rattle.places.specs.Parts.{fieldPlace}
 use Rattle.places.specs.Laws.{Parts}
-
--- ---- how many bytes the fields have
-
-first-longer : (b : ℕ) (fs : List (List ℕ)) → 0 < length fs → sum (map length (toFirst b fs)) + length (toFirst b fs) ≡ suc (sum (map length fs) + length fs)
-unfolding toFirst sum
-first-longer b [] h = absurd (omega arith)
-first-longer b (f ∷ fs) h = omega arith
-
--- with a comma before each but the first they make the line
-all-bytes : (l : List ℕ) → sum (map length (fields l)) + length (fields l) ≡ suc (length l)
-unfolding fields sum
-all-bytes [] = refl
-all-bytes (b ∷ bs) = by (eqb b 44) refl (all-bytes bs)
-  where
-    by : (t : Bool) → eqb b 44 ≡ t → sum (map length (fields bs)) + length (fields bs) ≡ suc (length bs)
-        → sum (map length (fields (b ∷ bs))) + length (fields (b ∷ bs)) ≡ suc (suc (length bs))
-    by true e ih = rw e (omega (arith, ih))
-    by false e ih = rw e (first-longer b (fields bs) (fields-some bs) ∙ ap suc ih)
-
-map-append : (xs ys : List (List ℕ)) → map length (xs ++ ys) ≡ map length xs ++ map length ys
-map-append [] ys = refl
-map-append (x ∷ xs) ys = ap (λ (r : List ℕ). length x ∷ r) (map-append xs ys)
-
-split-bytes : (i : ℕ) (fs : List (List ℕ)) → sum (map length fs) ≡ sum (map length (take i fs)) + sum (map length (drop i fs))
-split-bytes i fs =
-    ap (λ (r : List (List ℕ)). sum (map length r)) (sym (take-append-drop i fs)) ∙ ap sum (map-append (take i fs) (drop i fs))
-    ∙ sum-append (map length (take i fs)) (map length (drop i fs))
-
--- ---- where a field starts
-
-pub starts-there : (l : List ℕ) (index r : ℕ) → r ≤ length l → index < length (fields l) → drop index (fields l) ≡ fields (drop r l) → r ≡ startOf l index
-unfolding startOf
-starts-there l index r h k e =
-    let a = all-bytes l in
-    let b = all-bytes (drop r l) in
-    let s = split-bytes index (fields l) in
-    let p : sum (map length (drop index (fields l))) ≡ sum (map length (fields (drop r l))) = ap (λ (fs : List (List ℕ)). sum (map length fs)) e in
-    let q : length (drop index (fields l)) ≡ length (fields (drop r l)) = ap length e in
-    omega (arith, length-drop index (fields l), length-drop r l)
 
 -- ---- what the call answers
 
@@ -66,7 +26,9 @@ present l index n e z = ltb-true _ _ (asked _ _ [] tt (asked _ _ _ tt (sym e ∙
 module _ (l : List ℕ) (index : ℕ) where
   pub no-place : (n : ℕ) → n ≡ fieldNumber l index → (n ≡ 0 → ⊥) → _≡_ {A = FieldPlace} (record { number = n; start = 0; length = 0 }) (fieldPlace l index)
   unfolding fieldPlace
-  no-place n e h = refuses n (fieldNumber l index) _ _ _ e h refl
+  no-place n e h =
+      let some : 0 < n = omega arith in
+      rw (← e, ← start-none l index n e some, ← bytes-none l index n e some)
 
   module _ {n r : ℕ} (s : Starts l index r) (e : n ≡ fieldNumber l index) (z : n ≡ 0) where
     pub in-line : r ≤ length l
@@ -79,9 +41,9 @@ module _ (l : List ℕ) (index : ℕ) where
     pub placed : {c : ℕ} → c ≡ nextComma l r → _≡_ {A = FieldPlace} (record { number = 0; start = r; length = c - r }) (fieldPlace l index)
     unfolding fieldPlace
     placed {c} p =
-        let start : r ≡ startOf l index = starts-there l index r in-line (present l index n e z) (s .there in-line) in
-        let long : c - r ≡ length (getD (fields l) index []) = omega (arith, field-long l r in-line, ap length (field-there s in-line)) in
-        accepts n (fieldNumber l index) _ _ _ e z (rw (← start, long))
+        let number : 0 ≡ fieldNumber l index = sym z ∙ e in
+        let long : c - r ≡ length (firstField (drop r l)) = omega (arith, field-long l r in-line) in
+        rw (← number, ← start-there l index s in-line number, ← bytes-there l index number (sym (field-there s in-line)), long)
 
 -- ---- the promises
 
@@ -113,7 +75,7 @@ starts l index z =
     (record { there = λ h. t .rest ∙ ap (λ (r : ℕ). fields (drop r l)) is; absent = λ h. absurd (omega (arith, is, t .inside)) }, omega (arith, is, t .inside))
 
 inside : (l : List ℕ) (index : ℕ) → fieldPlace l index .start + fieldPlace l index .length ≤ length l
-unfolding fieldPlace outcome
+unfolding fieldPlace fieldStart fieldBytes outcome
 inside l index = by (fieldNumber l index) refl
   where
     by : (n : ℕ) → fieldNumber l index ≡ n → fieldPlace l index .start + fieldPlace l index .length ≤ length l
@@ -124,7 +86,7 @@ inside l index = by (fieldNumber l index) refl
     by (suc n) e = rw e (omega arith)
 
 bytes : (l : List ℕ) (index : ℕ) → take (fieldPlace l index .length) (drop (fieldPlace l index .start) l) ≡ fieldBytes l index
-unfolding fieldPlace fieldBytes outcome
+unfolding fieldPlace fieldStart fieldBytes outcome
 bytes l index = by (fieldNumber l index) refl
   where
     by : (n : ℕ) → fieldNumber l index ≡ n → take (fieldPlace l index .length) (drop (fieldPlace l index .start) l) ≡ fieldBytes l index

@@ -25,7 +25,7 @@ use denote.RattleType.{owns}
 use denote.Laws.{Is, shows}
 use denote.Plain.{uint-vals, uint-tells, uint-makes, uint-lawful}
 use denote.Builtin.{u8, u64}
-use denote.Ref.{RefT, NamedLft, now}
+use denote.Ref.{RefT, NamedLft}
 use denote.Signature.{plain, namedLft}
 use denote.Slice.{sliceTy, sliceVal, ShrSlice, slice-vals, shr-slice-tells, shr-slice-lawful, shr-slice-copy}
 use denote.Steps.{only, owned, peeks, facts, heard, nothing}
@@ -38,7 +38,7 @@ use denote.Triple.Table.{entered, cited}
 use denote.Triple.Walked.{says, Stays, stay-none, stay-none-slice, walkOf, goes-none, goes-none-slice, Walks, ends-at, walked, walk-meets}
 use denote.Exit.{yes}
 use denote.Triple.Clauses.{ensured, lasts}
-use Rattle.lines.specs.Fields.{fieldNumber, fieldBytes}
+use Rattle.lines.specs.Fields.{fieldNumber, fieldBytes, fieldStart, Part}
 use Rattle.lines.proofs.fields.FieldPart as T
 use Rattle.lines.proofs.fields.FieldPart.Laws as T′
 use Rattle.lines.proofs.fields.field_number as c
@@ -81,6 +81,10 @@ module _ {M : Type 1} (𝓤 : URA M) (H : Heap 𝓤) (A : Atoms 𝓤) (W : Given
   abbrev Own : RefT (List ℕ) → Val → Fml
   Own r w = ShrSlice (named 0) κ u8 .own r (w ∷ [])
 
+  -- what the contract says of the part
+  abbrev Handed : RefT (List ℕ) → Type 0
+  Handed r = Part s r (fieldStart (s .now) n) (fieldBytes (s .now) n)
+
   -- what both callees are handed
   abbrev to : Number 𝓤 H A mem run .Ghost
   to = (((κ, tt), (q, tt), tt, (s, (n, tt)), at), tt)
@@ -94,13 +98,13 @@ module _ {M : Type 1} (𝓤 : URA M) (H : Heap 𝓤) (A : Atoms 𝓤) (W : Given
   said-c : (m : ℕ) → ent 𝓤 (ensured 𝓤 H A c.ended (c.clauses 𝓤 H A mem run) (κ, tt) (s, (n, tt)) tt m) (fact 𝓤 (m ≡ fieldNumber (s .now) n))
   said-c m = exE 𝓤 _ (λ ws. snd∗ 𝓤 (sem 𝓤 H A (lasts c.ended (κ, tt) (s, (n, tt)) ws)) (fact 𝓤 (m ≡ fieldNumber (s .now) n)))
 
-  said-g : (r : RefT (List ℕ)) → ent 𝓤 (ensured 𝓤 H A g.ended (g.clauses 𝓤 H A mem run) (κ, tt) (s, (n, tt)) tt r) (fact 𝓤 (now r ≡ fieldBytes (s .now) n))
-  said-g r = exE 𝓤 _ (λ ws. snd∗ 𝓤 (sem 𝓤 H A (lasts g.ended (κ, tt) (s, (n, tt)) ws)) (fact 𝓤 (now r ≡ fieldBytes (s .now) n)))
+  said-g : (r : RefT (List ℕ)) → ent 𝓤 (ensured 𝓤 H A g.ended (g.clauses 𝓤 H A mem run) (κ, tt) (s, (n, tt)) tt r) (fact 𝓤 (Handed r))
+  said-g r = exE 𝓤 _ (λ ws. snd∗ 𝓤 (sem 𝓤 H A (lasts g.ended (κ, tt) (s, (n, tt)) ws)) (fact 𝓤 (Handed r)))
 
   abbrev mach : ℕ → RefT (List ℕ) → Val
   mach m r = vstruct (vcons (vint w64 m) (vcons (sliceVal (r .ptr) (length (r .now))) vnil))
 
-  exits : (m : ℕ) (r : RefT (List ℕ)) → m < 2 ^ 64 → m ≡ fieldNumber (s .now) n → now r ≡ fieldBytes (s .now) n
+  exits : (m : ℕ) (r : RefT (List ℕ)) → m < 2 ^ 64 → m ≡ fieldNumber (s .now) n → Handed r
       → ent 𝓤 (⋆ 𝓤 H A ((‵ (flft κ q) ⊛ ‵ ftrue) ∷ ‵ (Own s v) ∷ ‵ (Own r (sliceVal (r .ptr) (length (r .now)))) ∷ [])) (Post (mach m r))
   exits m r m-fits e₁ e₂ =
       qed W ((‵ (flft κ q) ⊛ ‵ ftrue) ∷ ‵ (Own s v) ∷ ‵ (Own r (sliceVal (r .ptr) (length (r .now)))) ∷ []) ∵
@@ -126,7 +130,7 @@ module _ {M : Type 1} (𝓤 : URA M) (H : Heap 𝓤) (A : Atoms 𝓤) (W : Given
         -- [what the callee asks; true; true; Own; n's; _4; …; _3; …; _2; …; _1; …; room for _0; …]
         calls-at ! fm (Bytes 𝓤 H A mem run) known-g to (and-then ! (load ! (from ! (stop !)) (look ! 11 refl)) (and-then ! (load ! (from ! (stop !)) (look ! 9 refl)) (no-more !))) (λ w.
         use1 W (later (some (λ (r : RefT (List ℕ)). ((‵ (flft κ q) ⊛ ‵ ftrue) ⊛ ‵ (Own r w)) ⊛ raw (ensured 𝓤 H A g.ended (g.clauses 𝓤 H A mem run) (κ, tt) (s, (n, tt)) tt r)))) (id⊢ 𝓤 _) $ await ! tt $ pick ! (λ r.
-        split ! $ move ! (1 ∷ []) $ use1 W (raw (fact 𝓤 (now r ≡ fieldBytes (s .now) n))) (said-g r) $ heard ! (now r ≡ fieldBytes (s .now) n) (λ e₂. split ! $ move ! (1 ∷ []) $
+        split ! $ move ! (1 ∷ []) $ use1 W (raw (fact 𝓤 (Handed r))) (said-g r) $ heard ! (Handed r) (λ e₂. split ! $ move ! (1 ∷ []) $
         peeks ! (ShrSlice (named 0) κ u8) (Is (ShrSlice (named 0) κ u8)) (shows 𝓤 H A (ShrSlice (named 0) κ u8)) r (w ∷ []) (λ has. land ! (from ! (stop !)) (init ! 6 refl (shr-slice-lawful 𝓤 H A W erased κ u8 .typed r (w ∷ []) has .0)) $
         rewrite ! 6 (λ (z : Val). ‵ (fat fullShare (sliceTy (tyRef erased imm (tyInt w8))) l₄ 0 z)) (ap only (has .0 .0)) refl $ rewrite ! 0 (λ (z : List Val). ‵ (ShrSlice (named 0) κ u8 .own r z)) (has .0 .0) refl $
         -- [what the part owns; the token and true; true; true; Own; n's; _4; …; _3; …; _2; …; _1; …; room for _0; …]

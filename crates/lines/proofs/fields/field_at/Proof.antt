@@ -1,4 +1,5 @@
 -- `fields::field_at` meets its contract. Assumes nothing.
+use mathlib.Core.Path.{refl}
 use native.Mathlib.Omega.{arith}
 use borrow.Author.Needs.{needs}
 use Rattle.lines.proofs.Commas.{next-low, next-high, field-part}
@@ -6,7 +7,7 @@ use Rattle.lines.proofs.fields.field_at.Statement.{statement}
 use Rattle.lines.proofs.fields.field_at.Tie as tie
 
 returns : tie.Need-returns
-returns c = let s = c .before .before .before in field-part (s .args .line .now) (s .args .from) (s .pre) (c .before .next-comma .result) (c .before .next-comma .ensures)
+returns c = let s = c .before .before .before in record { place = refl; content = field-part (s .args .line .now) (s .args .from) (s .pre) (c .before .next-comma .result) (c .before .next-comma .ensures) }
 
 pub field-at-spec : {M : Type 1} → statement M
 field-at-spec =

@@ -33,12 +33,12 @@ read-fields-spec =
     (λ c. search needs)  -- mul-figures
     (λ c. search needs)  -- slice-write-figures
     (λ c. search needs)  -- add-count
-    (λ c. let t = c .before .before .before in omega (arith, ends-inside (t .before .loop .inv) (t .loop-test .taken) (c .before .before .field-at .ensures) (c .before .read-figure .ensures) (both c)))  -- add-at
+    (λ c. let t = c .before .before .before in omega (arith, ends-inside (t .before .loop .inv) (t .loop-test .taken) (c .before .before .field-at .ensures .content) (c .before .read-figure .ensures) (both c)))  -- add-at
     (λ c. search needs)  -- same-length
-    (λ c. let t = c .before .before .before .before in gathered (t .before .loop .inv) (t .loop-test .taken) (c .before .before .before .field-at .ensures) (c .before .before .read-figure .ensures) (both (c .before)) (c .if2 .taken))  -- returns
+    (λ c. let t = c .before .before .before .before in gathered (t .before .loop .inv) (t .loop-test .taken) (c .before .before .before .field-at .ensures .content) (c .before .before .read-figure .ensures) (both (c .before)) (c .if2 .taken))  -- returns
     (λ c. search needs)  -- add-at-2
     (λ c. search needs)  -- loop-less
-    (λ c. let t = c .before .before .before .before in gathering-more (t .before .loop .inv) (t .loop-test .taken) (c .before .before .before .field-at .ensures) (c .before .before .read-figure .ensures) (both (c .before)) (c .if2 .left))  -- loop-again
+    (λ c. let t = c .before .before .before .before in gathering-more (t .before .loop .inv) (t .loop-test .taken) (c .before .before .before .field-at .ensures .content) (c .before .before .read-figure .ensures) (both (c .before)) (c .if2 .left))  -- loop-again
     (λ c. search needs)  -- add-t13
     (λ c. search needs)  -- same-length-2
     (λ c. search crowded))  -- returns-2

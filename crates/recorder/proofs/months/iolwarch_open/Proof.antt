@@ -125,9 +125,6 @@ module _ {M : Type 1} (𝓤 : URA M) (H : Heap 𝓤) (A : Atoms 𝓤) (W : Given
   abbrev Own2 : Fml
   Own2 = (ShrSlice (named 1) κ1 u64) .own profile (v2 ∷ [])
 
-  abbrev Own3 : Fml
-  Own3 = (u64) .own tariff (v3 ∷ [])
-
   abbrev Own4 : Fml
   Own4 = (MutSlice (named 2) κ2 u64) .own allotted (v4 ∷ [])
 

@@ -1,0 +1,336 @@
+"""Holds the crates to two rules: nothing stands that nobody uses, and nothing stands twice.
+
+Used is what is reached by name from what readers and the prover begin with: a contract, the proof of a function, a theorem that
+docs/RULES.md names; and of the code an exported function, `main`, or a call of document 01 for callers in Rattle. A name that a `use`
+line takes is used where its file names it. Twice is a run of six lines that stands in two places. The walks by hand over plant
+records are alike from end to end, so one tool writes them: each of them has to be what tools/outer.py writes. The last line is
+'N passed, M failed'.
+
+Names are looked up as words: a lemma that has the name of a local variable of its file passes."""
+import collections
+import functools
+import itertools
+import json
+import pathlib
+import re
+import subprocess
+import sys
+import tempfile
+
+ROOT = pathlib.Path(__file__).resolve().parent.parent
+CRATES = ROOT / "crates"
+WORD = re.compile(r"[^\s(){}.;,@\"«»]+")
+MARKS = r"(?:(?:pub|unfoldable|abbrev|private) )*"
+SIX = 6
+# A line that says nothing by itself: `use`, an argument or a lemma on a line of its own; a field that stays as it was, since antt
+# has no update of a record; the frame of a function's proof, and there an answer that is at hand or left to `search`.
+BARE = re.compile(
+    r"(ghost |pub )?use |(pub )?mod |(&mut |&)?\w+(\.\w+)*(\[[^]]*\])?,$|[\w-]+\)*$|(?P<field>\w+) = \w+ \.(?P=field);$"
+    r"|tie\.close|\(tie\.spec|\(λ c( κs)?\. (refl|tt|search [\w-]+|c( \.[\w-]+)+)\)+$"
+)
+# The calls of document 01 that nothing in this repository calls: they are for callers in Rattle, and C has its own form of each.
+PUBLIC = {
+    ("month", "open"): "over plant records; C and the file call the forms over columns",
+    ("month", "settle"): "likewise",
+    ("month", "statement"): "likewise",
+    ("month", "statement_size"): "likewise",
+    ("lines", "field"): "hands back a part of the line, which cannot cross to C",
+    ("transfer", "column_sum"): "document 01 has the table 'summed by rows and columns'; the rules sum rows alone",
+}
+
+
+def place(path, line):
+    return f"{path.relative_to(ROOT)}:{line}"
+
+
+def reached(roots, cited):
+    seen, todo = set(), list(roots)
+    while todo:
+        one = todo.pop()
+        if one not in seen:
+            seen.add(one)
+            todo.extend(cited(one))
+    return seen
+
+
+# ---- definitions and laws
+
+
+def declared(line):
+    """The name that a line of antt declares: a type, a set of lemmas, or what stands before a colon."""
+    if found := re.match(MARKS + r"(?:record|data|ruleset) (\S+)", line):
+        return found[1]
+    if not (found := re.match(MARKS + r"(\S+) ", line)):
+        return None
+    depth = 0
+    for word in re.findall(r"[(){}]|[^\s(){}]+", line[found.end() :]):
+        depth += (word in "({") - (word in ")}")
+        if depth == 0 and word in ("=", ":"):
+            return found[1].strip("«»") if word == ":" else None
+    return None
+
+
+def home(module):
+    """The file of a module of ours, in this crate or from another."""
+    found = re.match(r"Rattle·(\w+)(?:·\w+)?\.(specs|proofs)\.(.+)", module)
+    return found and CRATES / found[1] / found[2] / (re.sub("[«»]", "", found[3]).replace(".", "/") + ".antt")
+
+
+class Source:
+    """A file: the words of each declaration, and what its other words mean. All contracts of a file of code are one declaration, ''."""
+
+    def __init__(self, path):
+        self.names, self.modules = {}, {}
+        self.words, self.line, self.fields, self.shows = collections.defaultdict(set), {}, {}, {}
+        self.last = None
+        if path.suffix == ".rt":
+            self.code(re.sub("//.*", "", path.read_text()))
+        else:
+            # a field that is taken, `r .bytes`, is no name
+            self.text(re.sub(r"(?<=[\s(])\.[^\s(){};,]+", "", re.sub("--.*", "", path.read_text())))
+
+    def code(self, text):
+        for line in text.splitlines():
+            if line.startswith("ghost use "):
+                self.use(line[6:].rstrip(";"))
+            elif taken := re.match(r"use (?:\w+::)*(\w+);", line):
+                self.names[taken[1]] = (None, taken[1])
+            else:
+                self.words[""].update(WORD.findall(line), re.findall(r"\w+", line))
+
+    def text(self, text):
+        around, heading = [], False
+        for number, line in enumerate(text.splitlines(), 1):
+            indent = len(line) - len(line.lstrip())
+            if not line.strip():
+                continue
+            if not heading:
+                while around and indent <= around[-1][0]:
+                    around.pop()
+            level = around[-1][0] + 2 if around else 0
+            if heading or indent == level and line.lstrip().startswith("module "):
+                if not heading:
+                    around.append((indent, set()))
+                around[-1][1].update(WORD.findall(line))
+                heading = not line.rstrip().endswith("where")
+            elif line.startswith("use "):
+                self.use(line)
+            else:
+                self.one(line.strip(), number, indent == level, around)
+
+    def one(self, line, number, first, around):
+        name = declared(line)
+        if first and name:
+            self.last = name
+            self.line.setdefault(name, number)
+            if re.match(MARKS + "record ", line):
+                self.fields[name] = set()
+            # what the modules around it take is said of it too
+            self.words[name].update(*(words for _, words in around))
+            if shown := re.match(MARKS + r"\S+ : (\w+)$", line):
+                self.shows[name] = shown[1]
+        elif name and self.last in self.fields:
+            self.fields[self.last].add(name)
+        if self.last:
+            self.words[self.last].update(WORD.findall(line))
+
+    def use(self, line):
+        if some := re.match(r"use (\S+)\.\{(.*)\}$", line):
+            for part in some[2].split(", "):
+                name, _, other = part.partition(" as ")
+                self.names[other or name] = (home(some[1]), name)
+        else:
+            module, other = re.match(r"use (\S+) as (\S+)$", line).groups()
+            self.modules[other] = home(module)
+
+
+@functools.cache
+def sources():
+    files = [path for part in ("src/**/*.rt", "specs/**/*.antt", "proofs/**/*.antt") for path in sorted(CRATES.glob(f"*/{part}"))]
+    return {path: Source(path) for path in files}
+
+
+def stands(name, words):
+    """An operator's parts stand apart."""
+    return name in words or "_" in name and all(part in words for part in name.split("_") if part)
+
+
+def cited(one):
+    path, name = one
+    source = sources()[path]
+    words = source.words[name]
+    found = [(path, other) for other in source.line if stands(other, words)]
+    found += [target for other, target in source.names.items() if stands(other, words)]
+    for other, target in source.modules.items():
+        if other in words and target in sources():
+            found += [(target, inner) for inner in sources()[target].line if inner in words]
+    # a claim of specs/ and the theorem that shows it
+    if path.parts[-2] == "specs":
+        found += [(proof, theorem) for proof, theorem in shown().get((crate_of(path), name), ())]
+    return [(path, name) for path, name in found if path in sources() and name in sources()[path].line]
+
+
+def crate_of(path):
+    return path.relative_to(CRATES).parts[0]
+
+
+@functools.cache
+def shown():
+    found = collections.defaultdict(list)
+    for path, source in sources().items():
+        for name, claim in source.shows.items():
+            found[crate_of(path), claim].append((path, name))
+    return found
+
+
+def named():
+    """What a row of docs/RULES.md names in its proof: a theorem, or a field of the claim that one shows."""
+    for line in (ROOT / "docs" / "RULES.md").read_text().splitlines():
+        cells = line.strip("|").split("|")
+        if re.match(r"\| [A-Z]\d+", line):
+            crates = re.findall(r"`(\w+)` ", cells[2])
+            names = set(re.findall(r"`([a-z][\w·-]*)(?: [^`]*)?`", cells[4]))
+            for path, source in sources().items():
+                if crate_of(path) in crates:
+                    yield from ((path, name) for name in source.line if names & {name, *source.fields.get(name, ())})
+
+
+def laws():
+    """Every definition and law is used."""
+    roots = list(named())
+    for path, source in sources().items():
+        if path.suffix == ".rt":
+            roots.append((path, ""))
+        elif path.name == "Proof.antt":
+            roots.append((path, source.last))
+    seen = reached(roots, cited)
+    for path, source in sources().items():
+        for name, line in source.line.items():
+            yield (path, name) in seen, f"{place(path, line)}: nothing that is used names {name}"
+
+
+def imports():
+    """Every name that a `use` line takes is named in its file."""
+    for path, source in sources().items():
+        words = set().union(*source.words.values())
+        for name in [*source.names, *source.modules]:
+            yield stands(name, words), f"{path.relative_to(ROOT)}: a `use` line takes {name}, which nothing there names"
+
+
+# ---- functions
+
+
+def functions():
+    """Every function is used."""
+    calls, at, roots = {}, {}, set()
+    for path in sorted(CRATES.glob("*/src/**/*.rt")):
+        crate, lines = crate_of(path), path.read_text().splitlines()
+        used = {name: of for of, name in re.findall(r"^use (\w+)::(?:\w+::)*(\w+);", path.read_text(), re.M)}
+        for number, line in enumerate(lines):
+            if found := re.match(r"( *)(?:pub )?(extern \"C\" )?fn (\w+)", line):
+                end = lines.index(found[1] + "}", number)
+                body = re.sub("//.*", "", "\n".join(lines[number + 1 : end]))
+                one = (crate, found[3])
+                at.setdefault(one, f"{place(path, number + 1)}")
+                calls.setdefault(one, set()).update(called(body, crate, used))
+                if found[2] and lines[number - 1].strip() == "#[no_mangle]" or found[3] == "main" or one in PUBLIC:
+                    roots.add(one)
+    seen = reached(roots, lambda one: (other for other in calls[one] if other in calls))
+    for one, where in at.items():
+        yield one in seen, f"{where}: nothing that is used calls {one[1]}"
+    for one in PUBLIC:
+        yield one in calls, f"no function {one[1]} in {one[0]}, which this script lists as a public call"
+
+
+def called(body, crate, used):
+    """A path begins with a crate, or with what this crate has or takes by `use`; a method may be any crate's."""
+    for before, path, name in re.findall(r"(\.)?((?:\w+::)*)(\w+)\(", body):
+        first = path.split("::")[0] or name
+        if before:
+            yield from ((folder.name, name) for folder in CRATES.iterdir())
+        elif path and (CRATES / first).is_dir():
+            yield (first, name)
+        else:
+            yield (crate if used.get(first, "crate") == "crate" else used[first], name)
+
+
+# ---- what stands twice
+
+
+def written():
+    """The walks by hand, as tools/outer.py writes them and `rt fmt` lays them out."""
+    with tempfile.TemporaryDirectory() as folder:
+        made = {}
+        for config in sorted((ROOT / "tools").glob("*.json")):
+            read = json.loads(config.read_text())
+            path = pathlib.Path("crates", read["crate"], "proofs", *(part.strip("«»") for part in read["fn"]), "Proof.antt")
+            made[ROOT / path] = folder / path
+            made[ROOT / path].parent.mkdir(parents=True)
+            subprocess.run([sys.executable, ROOT / "tools" / "outer.py", config, folder / path], check=True)
+        pathlib.Path(folder, "crates.txt").touch()
+        subprocess.run(["rt", "fmt"], cwd=folder, check=True)
+        return {path: file.read_text() for path, file in made.items()}
+
+
+def walks(made):
+    for path, text in made.items():
+        yield path.is_file() and path.read_text() == text, f"{place(path, 1)}: not what tools/outer.py writes"
+
+
+def told(path):
+    """The lines that say something, each with its number: no blank, comment, `use` or lone punctuation, no parameter or argument
+    on a line of its own, and none that leaves a need to `search`."""
+    parameters = False
+    for number, line in enumerate(path.read_text().splitlines(), 1):
+        line = " ".join(re.sub("(--|//).*", "", line).split())
+        parameters = re.match(r"(pub )?(extern \"C\" )?fn .*\($", line) or parameters and not line.startswith(")")
+        if re.search(r"\w", line) and not parameters and not BARE.match(line):
+            yield number, line
+
+
+def runs(texts):
+    """Each run of six lines or more that stands in several places, the longest first: its places, each a file and a line's index, and its length."""
+    found = collections.defaultdict(list)
+    for path, lines in texts.items():
+        for at in range(len(lines) - SIX + 1):
+            found[tuple(line for _, line in lines[at : at + SIX])].append((path, at))
+    places = {tuple(where) for where in found.values() if len(where) > 1}
+    for where in places:
+        if moved(where, -1) not in places:
+            long = SIX
+            while moved(where, long - SIX + 1) in places:
+                long += 1
+            yield long, where
+
+
+def moved(where, by):
+    return tuple((path, at + by) for path, at in where)
+
+
+def twice(left_out):
+    """No file says what another place says."""
+    texts = {path: list(told(path)) for path in sources() if path not in left_out}
+    seen = set()
+    for long, where in sorted(runs(texts), reverse=True):
+        lines = {(path, at + more) for path, at in where for more in range(long)}
+        if not lines <= seen:
+            yield False, f"{long} lines stand at each of " + ", ".join(place(path, texts[path][at][0]) for path, at in where)
+            seen |= lines
+    for path in texts.keys() - {path for path, _ in seen}:
+        yield True, path
+
+
+def main():
+    made = written()
+    failed, passed = 0, 0
+    for good, what in itertools.chain(laws(), imports(), functions(), walks(made), twice(made)):
+        passed += good
+        failed += not good
+        if not good:
+            print("FAILED", what)
+    print(f"{passed} passed, {failed} failed")
+    return failed > 0
+
+
+if __name__ == "__main__":
+    sys.exit(main())

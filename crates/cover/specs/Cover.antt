@@ -24,10 +24,10 @@ module _ (rule : Rule) (subs have want : List ℕ) where
   unfoldable pub got : List (List ℕ)
   got = serve (portion rule subs) (want ⊖ ownParts) table
 
-  -- what is left to each submarket afterwards
+  -- Step 7's V: what is left to a submarket after step 5
   unfoldable pub rest : List ℕ
   rest = have ⊖ own ⊖ map sum table
 
-  -- what the plants have from submarket s: its own plants their own part, the others what they got from it
+  -- Step 8's figures in submarket s, of one table: its own plants their own part, the others what they got from it
   unfoldable pub supplied : ℕ → List ℕ
   supplied s = within s subs ownParts ⊕ at s got []

@@ -23,6 +23,7 @@ pub record Hour : Type 0 where
 unfoldable pub hourOf : List Plant → List ℕ → List ℕ → ℕ → Hour
 hourOf plants profile metered k = record { rule = share; plants = plants; profile = profile; period = k; metered = metered }
 
+-- the submarket that the hour's own table gives each plant
 unfoldable pub submarkets : Hour → List ℕ
 submarkets h = map (λ (p : Plant). p .submarket) (h .plants)
 

@@ -36,5 +36,5 @@ pub record HourWorked (h : Hour) (answer : Worked) (lent : List ℕ) (lentNets :
   pub netted : lentNets ≡ nets h
   pub secondaryIs : answer .secondary ≡ secondary h
   pub guaranteesAre : answer .guarantees ≡ sum (guarantees h)
-  pub coverIs : answer .«cover_table» .rows ≡ coverTable h
-  pub againIs : answer .«secondary_table» .rows ≡ secondaryTable h
+  pub coverTableIs : answer .«cover_table» .rows ≡ coverTable h
+  pub secondaryTableIs : answer .«secondary_table» .rows ≡ secondaryTable h

@@ -23,11 +23,13 @@ use Rattle.kept_month.specs.declared.KeptSized.{KeptSized}
 unfoldable pub stageOf : ℕ → Stage
 stageOf n = cond (eqb n 1) Open (cond (eqb n 2) Closed Blank)
 
+-- ... and the number of a stage
 unfoldable pub stageNumber : Stage → ℕ
 stageNumber Blank = 0
 stageNumber Open = 1
 stageNumber Closed = 2
 
+-- the month that C's stands for, and how a month is kept for C
 unfoldable pub monthOf : KeptMonth → Month
 monthOf k = record { stage = stageOf (k .stage); plants = k .plants; periods = k .periods; tariff = k .tariff; due = k .due }
 

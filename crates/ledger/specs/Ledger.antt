@@ -42,10 +42,10 @@ unfoldable pub inBounds : Ledger → Bool
 inBounds l =
     atMost kwhBound (l .allotted) && (every (isWithin kwhBound) (netColumn l) && every (isWithin moneyBound) (moneyColumn l))
 
--- all zeros, for p plants
+-- 'Open sets the ledger to zeros', for p plants
 unfoldable pub zeros : ℕ → Ledger
 zeros p = record { allotted = replicate (allottedWidth * p) 0; accounts = replicate (accountsWidth * p) (pos 0) }
 
--- figures added, one for one
+-- 'Settle .. adds to the ledger': figures added, one for one
 unfoldable pub added : Ledger → Ledger → Ledger
 added l more = record { allotted = l .allotted ⊕ more .allotted; accounts = l .accounts ⊕ℤ more .accounts }

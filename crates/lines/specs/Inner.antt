@@ -17,6 +17,7 @@ pub record Starts (line : List ℕ) (index position : ℕ) : Type 0 where
   pub there : position ≤ length line → drop index (fields line) ≡ fields (drop position line)
   pub absent : length line < position → drop index (fields line) ≡ []
 
+-- what is written for a field: its figure, and 0 where it is none
 unfoldable pub worth : List ℕ → ℕ
 worth field = cond (isFigure field) (value field) 0
 

@@ -6,6 +6,7 @@ use lib.Dec.{leb}
 use lib.IntN.{ℤ, pos, _+ℤ_}
 use lib.ListN.{take, drop, getD}
 
+-- figures added up; signed figures added up
 unfoldable pub sum : List ℕ → ℕ
 sum [] = 0
 sum (x ∷ xs) = x + sum xs

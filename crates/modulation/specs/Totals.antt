@@ -14,6 +14,7 @@ use Rattle.modulation.specs.Ratio.{Prepared}
 unfoldable pub modulationOf : List ℕ → ℕ → Modulation
 modulationOf profile k = record { before = sum (take (k - 1) profile); upto = sum (take k profile); whole = sum profile }
 
+-- running totals rise, up to a sum above 0 and within 744 hours' limit
 pub record Ordered (m : Modulation) : Type 0 where
   pub lower : m .before ≤ m .upto
   pub upper : m .upto ≤ m .whole

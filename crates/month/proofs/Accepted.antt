@@ -1,14 +1,12 @@
 -- What an accepted call tells: the month's stage, and that the hour of an accepted settle is sound. Assumes nothing.
-use mathlib.Core.Path.{_≡_, sym, ap, _∙_}
+use mathlib.Core.Path.{_≡_, sym, _∙_}
 use mathlib.Core.Bool.{true, not}
 use Prim.Native.Nat.{ℕ, zero, suc, _≤_, _<_}
 use native.Mathlib.Omega.{arith}
 use native.Mathlib.Nat.{le-of-suc-le-suc}
 use mathlib.Core.List.{List, [], _∷_, map}
 use borrow.Author.Tests.{leb-true, eqb-true}
-use lib.Dec.{leb, eqb}
-use lib.ListN.{length, getD, length-map}
-use Rattle.lists.specs.Questions.{_then_, firstNo}
+use lib.ListN.{length, length-map}
 use Rattle.lists.proofs.Questions.{asked, parted, both, limits, then-zero}
 use Rattle.lists.proofs.Columns.{_!_}
 use Rattle.sharing.proofs.Sharing.{share-lawful}

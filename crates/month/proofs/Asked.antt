@@ -2,8 +2,8 @@
 use mathlib.Core.Path.{_≡_, refl, sym, _∙_}
 use mathlib.Core.Bool.{true}
 use mathlib.Core.List.{List, []}
-use Prim.Native.Nat.{ℕ, _*_, _^_, _≤_, _<_}
-use borrow.Author.Tests.{leb-true, ltb-true, eqb-true}
+use Prim.Native.Nat.{ℕ, _*_, _^_, _≤_}
+use borrow.Author.Tests.{eqb-true}
 use lib.ListN.{length}
 use Rattle.lists.specs.Lists.{sum, atMost}
 use Rattle.lists.specs.Columns.{at}

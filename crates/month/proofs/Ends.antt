@@ -10,8 +10,7 @@ use Rattle.lists.specs.Questions.{_then_, firstNo}
 use Rattle.lists.proofs.Questions.{then-yes, then-no, refuses, accepts}
 use Rattle.transfer.specs.Calls.{noTable}
 use Rattle.hour.specs.declared.Worked.{Worked}
-use Rattle.hour.specs.Hour.{Hour, hourOf, guarantees, secondary, coverTable, secondaryTable, allotment, nets, accounts}
-use Rattle.hour.specs.Table.{plantsOf}
+use Rattle.hour.specs.Hour.{Hour, hourOf, guarantees, secondary, coverTable, secondaryTable, allotment, accounts}
 use Rattle.hour.specs.Work.{HourWorked}
 use Rattle.ledger.specs.Ledger.{Ledger, added}
 use Rattle.ledger.specs.Posting.{hourFigures}
@@ -80,7 +79,7 @@ module _ (m : Month) (plants : List Plant) (profile metered lent : List ℕ) (l 
 
     answer-is : answer (w .secondary) (w .guarantees) (w .«cover_table» .rows) (w .«secondary_table» .rows)
         ≡ answer (secondary hour) (sum (guarantees hour)) (coverTable hour) (secondaryTable hour)
-    answer-is = let s = done .secondaryIs in let t = done .guaranteesAre in let u = done .coverIs in let v = done .againIs in cc
+    answer-is = let s = done .secondaryIs in let t = done .guaranteesAre in let u = done .coverTableIs in let v = done .secondaryTableIs in cc
 
     pub written : k ≡ 0 → length figures ≡ length lent → (r : Settled) → r ≡ answer (w .secondary) (w .guarantees) (w .«cover_table» .rows) (w .«secondary_table» .rows)
         → (a x : List ℕ) (y : List ℤ) → a ≡ figures ++ drop (length figures) lent

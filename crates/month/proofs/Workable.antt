@@ -6,16 +6,16 @@ use Prim.Native.Nat.{ℕ, zero, suc, _+_, _-_, _*_, _/_, _%_, _^_, _≤_, _<_, z
 use native.Mathlib.Nat.{le-of-suc-le-suc, not-suc-le-zero}
 use native.Mathlib.Omega.{arith}
 use borrow.Author.Tests.{leb-true}
-use lib.IntN.{ℤ, pos, natAbs, subℕ}
+use lib.IntN.{ℤ, natAbs, subℕ}
 use lib.ListN.{length, getD}
-use Rattle.lists.specs.Lists.{sum, Within}
+use Rattle.lists.specs.Lists.{Within}
 use Rattle.lists.specs.Columns.{_⊕_}
 use Rattle.lists.proofs.Columns.{_!_, length-rowwise}
 use Rattle.lists.proofs.Questions.{asked, both, then-zero, at-most-at}
 use Rattle.lists.proofs.Sums.{at-le-sum}
 use Rattle.signed.proofs.View.{net-abs}
 use Rattle.hour.specs.declared.Plant.{Plant}
-use Rattle.hour.specs.Hour.{Hour, hourOf, figure, covered, rights, allotment, nets}
+use Rattle.hour.specs.Hour.{Hour, hourOf, covered, rights, allotment, nets}
 use Rattle.hour.specs.Table.{plantsOf, Equal}
 use Rattle.hour.specs.Work.{Workable, HourWorked}
 use Rattle.hour.specs.declared.Worked.{Worked}

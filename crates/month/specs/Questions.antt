@@ -2,7 +2,7 @@
 use Prim.Native.Nat.{ℕ, _+_, _*_}
 use mathlib.Core.Bool.{Bool, true, false, not, _&&_}
 use mathlib.Core.List.{List, [], _∷_}
-use lib.Dec.{leb, ltb, eqb}
+use lib.Dec.{eqb}
 use lib.ListN.{length}
 use Rattle.lists.specs.Lists.{sum, most, atMost}
 use Rattle.lists.specs.Columns.{at}
@@ -15,6 +15,7 @@ use Rattle.month.specs.declared.Month.{Month}
 use Rattle.month.specs.declared.Stage.{Stage}
 use Rattle.month.specs.declared.Stage.the-variants.{Blank, Open, Closed}
 
+-- 'A month is blank, open or closed': is it open? is it blank?
 unfoldable pub isOpen : Stage → Bool
 isOpen Blank = false
 isOpen Open = true
@@ -62,6 +63,7 @@ posted l h tariff = added l (record { allotted = allotment h; accounts = account
 unfoldable pub boundsNumber : Ledger → Ledger → ℕ
 boundsNumber before after = firstNo ((inBounds before && inBounds after) ⁇ 19 ∷ [])
 
+-- ... all of settle's questions, in their order
 unfoldable pub settleNumber : Month → List Plant → List ℕ → List ℕ → List ℕ → Ledger → ℕ
 settleNumber m plants profile metered lent l =
     firstNo

@@ -46,36 +46,36 @@ pub fn sizes_number(plants: u64, periods: u64, tariff: u64) -> u64
     0
 }
 
-// 5: submarket 1 to 4, and not below that of the row above.
-pub fn is_placed(submarket_above: u64, submarket: u64) -> bool
-    ensures { λ r. ⌜ r ≡ placed «submarket_above» submarket ⌝ }
+// 5: submarket 1 to 4, and not below that of the row before.
+pub fn is_placed(submarket_before: u64, submarket: u64) -> bool
+    ensures { λ r. ⌜ r ≡ placed «submarket_before» submarket ⌝ }
 {
-    in_range(1, 4, submarket) && submarket_above <= submarket
+    in_range(1, 4, submarket) && submarket_before <= submarket
 }
 
-// 6: number in limits and, in the same submarket, above that of the row above.
-pub fn is_numbered(submarket_above: u64, number_above: u64, submarket: u64, number: u64) -> bool
-    ensures { λ r. ⌜ r ≡ numbered «submarket_above» «number_above» submarket number ⌝ }
+// 6: number in limits and, in the same submarket, above that of the row before.
+pub fn is_numbered(submarket_before: u64, number_before: u64, submarket: u64, number: u64) -> bool
+    ensures { λ r. ⌜ r ≡ numbered «submarket_before» «number_before» submarket number ⌝ }
 {
-    in_range(1, 999999, number) && (submarket != submarket_above || number_above < number)
+    in_range(1, 999999, number) && (submarket != submarket_before || number_before < number)
 }
 
-// 5 to 8 of a row, after the row above.
+// 5 to 8 of a row, after the row before.
 pub fn row_number(
-    submarket_above: u64,
-    number_above: u64,
+    submarket_before: u64,
+    number_before: u64,
     submarket: u64,
     number: u64,
     guarantee: u64,
     loss: u64,
     availability: u64,
 ) -> u64
-    ensures { λ r. ⌜ r ≡ rowNumber «submarket_above» «number_above» (record { submarket = submarket; number = number; guarantee = guarantee; loss = loss; availability = availability }) ⌝ }
+    ensures { λ r. ⌜ r ≡ rowNumber «submarket_before» «number_before» (record { submarket = submarket; number = number; guarantee = guarantee; loss = loss; availability = availability }) ⌝ }
 {
-    if !is_placed(submarket_above, submarket) {
+    if !is_placed(submarket_before, submarket) {
         return 5;
     }
-    if !is_numbered(submarket_above, number_above, submarket, number) {
+    if !is_numbered(submarket_before, number_before, submarket, number) {
         return 6;
     }
     if 1000000000000 < guarantee {
@@ -95,15 +95,15 @@ pub fn rows_number(n: usize, columns: &[u64]) -> u64
     requires { ⌜ (n ≤ 512) × (2560 ≤ length (now columns)) ⌝ }
     ensures { λ r. ⌜ r ≡ rowsNumber 0 0 (rowsOf n (now (columns .entry))) ⌝ }
 {
-    let mut submarket_above: u64 = 0;
-    let mut number_above: u64 = 0;
+    let mut submarket_before: u64 = 0;
+    let mut number_before: u64 = 0;
     let mut i: usize = 0;
     while i < n {
         let submarket = columns[i];
         let number = columns[512 + i];
         let no = row_number(
-            submarket_above,
-            number_above,
+            submarket_before,
+            number_before,
             submarket,
             number,
             columns[1024 + i],
@@ -113,8 +113,8 @@ pub fn rows_number(n: usize, columns: &[u64]) -> u64
         if no != 0 {
             return no;
         }
-        submarket_above = submarket;
-        number_above = number;
+        submarket_before = submarket;
+        number_before = number;
         i += 1;
     }
     0

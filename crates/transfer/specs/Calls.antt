@@ -21,6 +21,7 @@ transferNumber left need =
     ((atMost most left && (atMost most need && (leb (sum need) (sum left) && apart left need))) ⁇ 23
     ∷ [])
 
+-- a table of zeros: 'zeros in every other part of the answer'
 abbrev pub noTable : List (List ℕ)
 noTable = four (λ _. four (λ _. 0))
 

@@ -200,8 +200,8 @@ returns c =
       netted = n-is (before-first (before-second at));
       secondaryIs = z-is (before-prepare (before-first (before-second at)));
       guaranteesAre = sum-is (before-share (before-prepare (before-first (before-second at))));
-      coverIs = first-is (before-second at);
-      againIs = second-is at;
+      coverTableIs = first-is (before-second at);
+      secondaryTableIs = second-is at;
     }
 
 pub work-in-spec : {M : Type 1} → statement M

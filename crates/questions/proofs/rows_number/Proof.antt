@@ -6,10 +6,10 @@ use Rattle.questions.proofs.rows_number.Statement.{statement}
 use Rattle.questions.proofs.rows_number.Tie as tie
 
 abbrev Inv-loop : tie.InvT-loop
-Inv-loop n columns submarket-above₀ number-above₀ i₀ submarket-above number-above i = Descending n columns submarket-above number-above i
+Inv-loop n columns submarket-before₀ number-before₀ i₀ submarket-before number-before i = Descending n columns submarket-before number-before i
 
 abbrev μ-loop : tie.MeasureT-loop
-μ-loop n columns submarket-above₀ number-above₀ i₀ submarket-above number-above i = n - i
+μ-loop n columns submarket-before₀ number-before₀ i₀ submarket-before number-before i = n - i
 
 pub rows-number-spec : {M : Type 1} → statement M
 rows-number-spec =

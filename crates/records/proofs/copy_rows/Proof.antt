@@ -1,7 +1,7 @@
 -- `records::copy_rows` meets its contract: a walk of its MIR, by hand, with a loop. Each turn looks into the slice of plants for the row at i, lends the columns again to `put_row`, and goes on.
 -- All that the proof knows of `put_row` is that it meets its contract. The loop's state and its laws are `Copied`'s.
 -- Assumes nothing.
-use mathlib.Core.Path.{_≡_, refl, sym, ap, _∙_, subst}
+use mathlib.Core.Path.{_≡_, refl, sym, ap, subst}
 use Prim.Native.Nat.{ℕ, _<_, _≤_, _^_, _*_, _+_, _-_}
 use mathlib.Core.List.{List, [], _∷_}
 use lib.Dec.{T as Holds, ltb, ltb→lt, nltb→le, lit<}

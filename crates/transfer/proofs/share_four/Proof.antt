@@ -6,8 +6,6 @@ use Rattle.lists.proofs.Parts.{whole-written}
 use borrow.Author.Needs.{needs}
 use Rattle.transfer.proofs.share_four.Statement.{statement}
 use Rattle.transfer.proofs.share_four.Tie as tie
-use Rattle.sharing.proofs.share_into.Reads as share-into-reads
-use Rattle.sharing.proofs.weights_total.Reads as weights-total-reads
 
 returns : tie.Need-returns
 returns c =

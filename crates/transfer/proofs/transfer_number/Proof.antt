@@ -11,9 +11,6 @@ use Rattle.transfer.proofs.Asked.{small, is-transferable}
 use borrow.Author.Needs.{needs}
 use Rattle.transfer.proofs.transfer_number.Statement.{statement}
 use Rattle.transfer.proofs.transfer_number.Tie as tie
-use Rattle.lists.proofs.at_most.Reads as at-most-reads
-use Rattle.transfer.proofs.are_apart.Reads as are-apart-reads
-use Rattle.sharing.proofs.weights_total.Reads as weights-total-reads
 
 module _ (left need : List ℕ) where
   too-much : sum left < sum need → 23 ≡ transferNumber left need

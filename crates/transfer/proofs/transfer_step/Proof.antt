@@ -11,8 +11,6 @@ use Rattle.transfer.proofs.Served.{Enough, enough, after1, after2, afte
 use borrow.Author.Needs.{needs}
 use Rattle.transfer.proofs.transfer_step.Statement.{statement}
 use Rattle.transfer.proofs.transfer_step.Tie as tie
-use Rattle.transfer.proofs.less.Reads as less-reads
-use Rattle.transfer.proofs.share_four.Reads as share-four-reads
 
 -- what is left, and what each need took, as the definition has them
 module _ (c : tie.Start) where

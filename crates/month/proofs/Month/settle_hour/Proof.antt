@@ -1,11 +1,6 @@
 -- `Month::settle_hour` meets its contract: question 19 refused, every list is as it came; else the hour's figures are written and added. Assumes nothing.
-use mathlib.Core.Path.{_≡_, refl, sym, ap, _∙_}
-use mathlib.Core.Bool.{true}
-use mathlib.Core.List.{List}
-use Prim.Native.Nat.{ℕ}
+use mathlib.Core.Path.{_∙_}
 use native.Mathlib.Omega.{arith}
-use lib.IntN.{ℤ}
-use lib.ListN.{length}
 use borrow.Author.Needs.{needs}
 use Rattle.month.proofs.Asked.{bounds}
 use Rattle.month.proofs.Workable.{due-small, workable, postable}

@@ -1,9 +1,8 @@
 -- `settle::work_columns` meets its contract: the hour of the five columns is that of the rows that they make. Assumes nothing.
 use mathlib.Core.Path.{_≡_, sym, _∙_, subst}
 use mathlib.Core.List.{List}
-use Prim.Native.Nat.{ℕ, _≤_}
+use Prim.Native.Nat.{ℕ}
 use lib.IntN.{ℤ}
-use lib.ListN.{length}
 use borrow.Author.Needs.{needs}
 use Rattle.hour.specs.declared.Plant.{Plant}
 use Rattle.hour.specs.declared.Worked.{Worked}

@@ -515,23 +515,25 @@ static void unknown(const char *what, uint64_t number)
     check(end.number == number && end.length == 0 && memcmp(&before, &work, sizeof work) == 0, what);
 }
 
-/* One list of a feed too short, by its place among the eleven. */
+/* One list too short, by its place among the ten. The last is the text, which feed is not lent. */
 static void short_list(const char *what, int list)
 {
     const uint8_t part[] = "MRE,1,1,3,1300\n";
-    size_t n[11] = {8192, 513, 512, 512, 512, 512, 512, 744, 4 * 512, 4 * 512, 2 * 512};
+    size_t n[10] = {8192, 512, 512, 512, 512, 512, 744, 4 * 512, 2 * 512, 128 * 512 + 128};
     iolwarch_fed fed;
     iolwarch_finished end;
     n[list]--;
     memcpy(&before, &work, sizeof work);
-    fed = iolwarch_file_feed(work.file, part, sizeof part - 1, work.line, n[0], work.figures, n[1], work.submarket,
-                             n[2], work.number, n[3], work.guarantee, n[4], work.loss, n[5], work.availability, n[6],
-                             work.profile, n[7], work.allotment, n[8], work.allotted, n[9], work.accounts, n[10]);
-    check(fed.number == 30 && memcmp(&fed.file, &work.file, sizeof work.file) == 0, what);
-    end = iolwarch_file_finish(work.file, work.line, n[0], work.figures, n[1], work.submarket, n[2], work.number, n[3],
-                               work.guarantee, n[4], work.loss, n[5], work.availability, n[6], work.profile, n[7],
-                               work.allotted, n[9], work.accounts, n[10], work.text, list == 8 ? 65663 : 65664);
-    check(end.number == (list == 8 ? 22 : 30) && end.length == 0, what);
+    if (list != 9) {
+        fed = iolwarch_file_feed(work.file, part, sizeof part - 1, work.line, n[0], work.submarket, n[1], work.number,
+                                 n[2], work.guarantee, n[3], work.loss, n[4], work.availability, n[5], work.profile,
+                                 n[6], work.allotted, n[7], work.accounts, n[8]);
+        check(fed.number == 30 && memcmp(&fed.file, &work.file, sizeof work.file) == 0, what);
+    }
+    end = iolwarch_file_finish(work.file, work.line, n[0], work.submarket, n[1], work.number, n[2], work.guarantee,
+                               n[3], work.loss, n[4], work.availability, n[5], work.profile, n[6], work.allotted, n[7],
+                               work.accounts, n[8], work.text, n[9]);
+    check(end.number == (list == 9 ? 22 : 30) && end.length == 0, what);
     check(memcmp(&before, &work, sizeof work) == 0, what);
 }
 
@@ -562,7 +564,7 @@ static void files(void)
     work.accounts[0] = INT64_MIN;
     unknown("a ledger changed between two feeds", 31);
     iolwarch_workspace_begin(&work);
-    for (list = 0; list < 11; list++) {
+    for (list = 0; list < 10; list++) {
         short_list("a list too short", list);
     }
 }

@@ -167,26 +167,18 @@ fn is_valid(
 fn feed_number(
     file: MonthFile,
     line: &[u8],
-    figures: &[u64],
     submarket: &[u64],
     number: &[u64],
     guarantee: &[u64],
     loss: &[u64],
     availability: &[u64],
     profile: &[u64],
-    allotment: &[u64],
     allotted: &[u64],
     accounts: &[i64],
 ) -> u64
-    ensures { λ r. ⌜ FeedNumber file (record { held = kept (now (submarket .entry)) (now (number .entry)) (now (guarantee .entry)) (now (loss .entry)) (now (availability .entry)) (now (profile .entry)) (now (allotted .entry)) (now (accounts .entry)); line = now (line .entry); figures = now (figures .entry); allotment = now (allotment .entry) }) r ⌝ }
+    ensures { λ r. ⌜ FeedNumber file (record { held = kept (now (submarket .entry)) (now (number .entry)) (now (guarantee .entry)) (now (loss .entry)) (now (availability .entry)) (now (profile .entry)) (now (allotted .entry)) (now (accounts .entry)); line = now (line .entry) }) r ⌝ }
 {
     if line.len() < 8192 {
-        return 30;
-    }
-    if figures.len() < 513 {
-        return 30;
-    }
-    if allotment.len() < 4 * 512 {
         return 30;
     }
     if !are_lent(
@@ -228,30 +220,26 @@ pub fn feed_any(
     file: MonthFile,
     part: &[u8],
     line: &mut [u8],
-    figures: &mut [u64],
     submarket: &mut [u64],
     number: &mut [u64],
     guarantee: &mut [u64],
     loss: &mut [u64],
     availability: &mut [u64],
     profile: &mut [u64],
-    allotment: &mut [u64],
     allotted: &mut [u64],
     accounts: &mut [i64],
 ) -> FeedAnswer
-    ensures { λ r. ⌜ FedAny file (now (part .entry)) (record { held = kept (now (submarket .entry)) (now (number .entry)) (now (guarantee .entry)) (now (loss .entry)) (now (availability .entry)) (now (profile .entry)) (now (allotted .entry)) (now (accounts .entry)); line = now (line .entry); figures = now (figures .entry); allotment = now (allotment .entry) }) r (record { held = kept (now (submarket .exit)) (now (number .exit)) (now (guarantee .exit)) (now (loss .exit)) (now (availability .exit)) (now (profile .exit)) (now (allotted .exit)) (now (accounts .exit)); line = now (line .exit); figures = now (figures .exit); allotment = now (allotment .exit) }) ⌝ }
+    ensures { λ r. ⌜ FedAny file (now (part .entry)) (record { held = kept (now (submarket .entry)) (now (number .entry)) (now (guarantee .entry)) (now (loss .entry)) (now (availability .entry)) (now (profile .entry)) (now (allotted .entry)) (now (accounts .entry)); line = now (line .entry) }) r (record { held = kept (now (submarket .exit)) (now (number .exit)) (now (guarantee .exit)) (now (loss .exit)) (now (availability .exit)) (now (profile .exit)) (now (allotted .exit)) (now (accounts .exit)); line = now (line .exit) }) ⌝ }
 {
     let no = feed_number(
         file,
         line,
-        figures,
         submarket,
         number,
         guarantee,
         loss,
         availability,
         profile,
-        allotment,
         allotted,
         accounts,
     );
@@ -262,14 +250,12 @@ pub fn feed_any(
         file,
         part,
         line,
-        &mut figures[..513],
         submarket,
         number,
         guarantee,
         loss,
         availability,
         profile,
-        allotment,
         allotted,
         accounts,
     );
@@ -283,7 +269,6 @@ pub fn feed_any(
 fn finish_number(
     file: MonthFile,
     line: &[u8],
-    figures: &[u64],
     submarket: &[u64],
     number: &[u64],
     guarantee: &[u64],
@@ -294,12 +279,9 @@ fn finish_number(
     accounts: &[i64],
     text: &[u8],
 ) -> u64
-    ensures { λ r. ⌜ FinishNumber file (record { held = kept (now (submarket .entry)) (now (number .entry)) (now (guarantee .entry)) (now (loss .entry)) (now (availability .entry)) (now (profile .entry)) (now (allotted .entry)) (now (accounts .entry)); line = now (line .entry); figures = now (figures .entry); text = now (text .entry) }) r ⌝ }
+    ensures { λ r. ⌜ FinishNumber file (record { held = kept (now (submarket .entry)) (now (number .entry)) (now (guarantee .entry)) (now (loss .entry)) (now (availability .entry)) (now (profile .entry)) (now (allotted .entry)) (now (accounts .entry)); line = now (line .entry); text = now (text .entry) }) r ⌝ }
 {
     if line.len() < 8192 {
-        return 30;
-    }
-    if figures.len() < 513 {
         return 30;
     }
     if !are_lent(
@@ -343,7 +325,6 @@ pub struct FinishAnswer {
 pub fn finish_any(
     file: MonthFile,
     line: &[u8],
-    figures: &mut [u64],
     submarket: &[u64],
     number: &[u64],
     guarantee: &[u64],
@@ -354,12 +335,11 @@ pub fn finish_any(
     accounts: &[i64],
     text: &mut [u8],
 ) -> FinishAnswer
-    ensures { λ r. ⌜ FinishedAny file (record { held = kept (now (submarket .entry)) (now (number .entry)) (now (guarantee .entry)) (now (loss .entry)) (now (availability .entry)) (now (profile .entry)) (now (allotted .entry)) (now (accounts .entry)); line = now (line .entry); figures = now (figures .entry); text = now (text .entry) }) r (record { held = kept (now (submarket .entry)) (now (number .entry)) (now (guarantee .entry)) (now (loss .entry)) (now (availability .entry)) (now (profile .entry)) (now (allotted .entry)) (now (accounts .entry)); line = now (line .entry); figures = now (figures .exit); text = now (text .exit) }) ⌝ }
+    ensures { λ r. ⌜ FinishedAny file (record { held = kept (now (submarket .entry)) (now (number .entry)) (now (guarantee .entry)) (now (loss .entry)) (now (availability .entry)) (now (profile .entry)) (now (allotted .entry)) (now (accounts .entry)); line = now (line .entry); text = now (text .entry) }) r (record { held = kept (now (submarket .entry)) (now (number .entry)) (now (guarantee .entry)) (now (loss .entry)) (now (availability .entry)) (now (profile .entry)) (now (allotted .entry)) (now (accounts .entry)); line = now (line .entry); text = now (text .exit) }) ⌝ }
 {
     let no = finish_number(
         file,
         line,
-        figures,
         submarket,
         number,
         guarantee,
@@ -379,7 +359,6 @@ pub fn finish_any(
     let length = finish(
         file,
         line,
-        &mut figures[..513],
         submarket,
         number,
         guarantee,

@@ -25,11 +25,12 @@ fn write_refusal(line: u64, number: u64, text: &mut [u8]) -> usize
 }
 
 // A line without its byte 10: 26 to 30 first, then 31.
-fn unended(file: MonthFile, line: &[u8], figures: &mut [u64]) -> MonthFile
-    requires { ⌜ (file .count < 10000) × (length (now figures) ≡ 513) ⌝ }
+fn unended(file: MonthFile, line: &[u8]) -> MonthFile
+    requires { ⌜ file .count < 10000 ⌝ }
     ensures { λ r. ⌜ r ≡ atRefusal file (unendedNumber (now (line .entry))) ⌝ }
 {
-    let answer = read_line(line, figures);
+    let mut figures = [0u64; 513];
+    let answer = read_line(line, &mut figures);
     if answer.number != 0 {
         return file.refused(answer.number);
     }
@@ -37,8 +38,8 @@ fn unended(file: MonthFile, line: &[u8], figures: &mut [u64]) -> MonthFile
 }
 
 // The state after the last byte. An early end is 31 too, as the line after the last.
-fn at_end(file: MonthFile, line: &[u8], figures: &mut [u64]) -> MonthFile
-    requires { ⌜ (file .stage ≤ 2 → file .count < 10000) × (file .length ≤ length (now line)) × (length (now figures) ≡ 513) ⌝ }
+fn at_end(file: MonthFile, line: &[u8]) -> MonthFile
+    requires { ⌜ (file .stage ≤ 2 → file .count < 10000) × (file .length ≤ length (now line)) ⌝ }
     ensures { λ r. ⌜ ((k : Kept) → Valid file k → AtEnd file k (now (line .entry)) r) ⌝ }
 {
     if 2 < file.stage {
@@ -46,7 +47,7 @@ fn at_end(file: MonthFile, line: &[u8], figures: &mut [u64]) -> MonthFile
     }
     let length = file.length;
     if length != 0 {
-        return unended(file, &line[..length], figures);
+        return unended(file, &line[..length]);
     }
     if file.stage != 2 {
         return file.refused(31);
@@ -97,7 +98,6 @@ fn write_month(
 pub fn finish(
     file: MonthFile,
     line: &[u8],
-    figures: &mut [u64],
     submarket: &[u64],
     number: &[u64],
     guarantee: &[u64],
@@ -108,11 +108,11 @@ pub fn finish(
     accounts: &[i64],
     text: &mut [u8],
 ) -> usize
-    requires { ⌜ (8192 ≤ length (now line)) × (length (now figures) ≡ 513) × (128 * 512 + 128 ≤ length (now text)) ⌝ }
+    requires { ⌜ (8192 ≤ length (now line)) × (128 * 512 + 128 ≤ length (now text)) ⌝ }
     requires { ⌜ Valid file (kept (now submarket) (now number) (now guarantee) (now loss) (now availability) (now profile) (now allotted) (now accounts)) ⌝ }
     ensures { λ r. ⌜ Fills (finished (readingOf file (kept (now (submarket .entry)) (now (number .entry)) (now (guarantee .entry)) (now (loss .entry)) (now (availability .entry)) (now (profile .entry)) (now (allotted .entry)) (now (accounts .entry))) (now (line .entry)))) (now (text .entry)) r (now (text .exit)) ⌝ }
 {
-    let end = at_end(file, line, figures);
+    let end = at_end(file, line);
     if 2 < end.stage {
         return write_refusal(end.count, end.number, text);
     }

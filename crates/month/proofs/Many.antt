@@ -1,42 +1,91 @@
--- More rows lent than a month may have: the number that a call answers, whatever the rows are. Assumes nothing.
-use mathlib.Core.Path.{_≡_, refl, ap, _∙_}
-use mathlib.Core.Bool.{true, false}
+-- The records that columns hold, and the table that these columns make: a call ends in the same for both. Up to 512 rows they are the same; more are
+-- refused by their number alone, whatever the rows are. Assumes nothing.
+use mathlib.Core.Path.{_≡_, refl, sym, ap, _∙_, subst}
+use mathlib.Core.Bool.{Bool, true, false}
 use mathlib.Core.List.{List}
-use Prim.Native.Nat.{ℕ, _<_}
+use Prim.Native.Nat.{ℕ, _<_, _≤_}
+use native.Mathlib.Decide.{decLt}
 use native.Mathlib.Omega.{arith}
 use lib.ListN.{length}
-use Rattle.lists.proofs.Questions.{no, yes, part-no, not-no, not-yes, above, refuses}
+use Rattle.lists.proofs.Questions.{no as answered-no, yes as answered-yes, part-no, not-no, not-yes, above, refuses}
 use Rattle.hour.specs.declared.Plant.{Plant}
 use Rattle.ledger.specs.Ledger.{Ledger}
-use Rattle.month.specs.declared.Month.{Month}
-use Rattle.month.specs.declared.Settled.{Settled}
+use Rattle.records.specs.Records.{rowsOf, Held}
+use Rattle.records.proofs.Figures.{length-rows, held-rows}
 use Rattle.questions.specs.Questions.{sizesNumber}
+use Rattle.month.specs.declared.Month.{Month}
+use Rattle.month.specs.declared.Sized.{Sized}
 use Rattle.month.specs.Questions.{isOpen, openNumber, ownNumber}
-use Rattle.month.specs.Calls.{OpenEnd, openCall}
+use Rattle.month.specs.Calls.{OpenEnd, openCall, SettleEnd, settleCall}
+use Rattle.month.specs.Statement.{dueNumber, StatementEnd, statementCall, Sizing}
 use Rattle.month.specs.Steps.{inputsNumber}
 use Rattle.month.proofs.Asked.{own}
-use Rattle.month.proofs.Ends.{Ends, unsettled, refused-inputs}
+use Rattle.month.proofs.Ends.{unsettled, refused-inputs}
+use Rattle.month.proofs.StatementAsked.{statement-many, size-many}
 
-module _ (m : Month) (plants : List Plant) (profile : List ℕ) (t : ℕ) (l : Ledger) where
+-- what holds of the table holds of the records, if it holds of any two tables of equally many rows, more than 512, or of none of them
+of-records : (P : List Plant → Type 0) → ((ps qs : List Plant) → length ps ≡ length qs → 512 < length qs → P ps → P qs)
+    → (n : ℕ) (c : List ℕ) (plants : List Plant) → Held plants n c → P (rowsOf n c) → P plants
+of-records P many n c plants h p = go (decLt 512 n)
+  where
+    go : Dec (512 < n) → P plants
+    go (yes l) = many (rowsOf n c) plants (length-rows n c ∙ h .count) (omega (arith, h .count)) p
+    go (no g) = subst P (held-rows plants n c (omega arith) h) p
+
+module _ (m : Month) (profile : List ℕ) (t : ℕ) (l : Ledger) where
   abbrev refused : ℕ → OpenEnd
   refused k = record { answer = record { number = k; month = m }; ledger = l }
 
-  pub open-already : isOpen (m .stage) ≡ true → refused 1 ≡ openCall m plants profile t l
+  already : (plants : List Plant) → isOpen (m .stage) ≡ true → refused 1 ≡ openCall m plants profile t l
   unfolding openNumber openCall
-  open-already e = refuses 1 _ _ _ _ (no _ _ _ (not-no _ e)) (λ z. omega arith) refl
+  already plants e = refuses 1 _ _ _ _ (answered-no _ _ _ (not-no _ e)) (λ z. omega arith) refl
 
-  pub open-many : isOpen (m .stage) ≡ false → 512 < length plants → refused 2 ≡ openCall m plants profile t l
+  many-rows : (plants : List Plant) → isOpen (m .stage) ≡ false → 512 < length plants → refused 2 ≡ openCall m plants profile t l
   unfolding openNumber sizesNumber openCall
-  open-many e h =
+  many-rows plants e h =
       refuses 2 _ _ _ _
-      (yes _ _ _ _ (not-yes _ e) (part-no _ _ 2 (no _ _ _ (above 1 512 (length plants) h)) (λ z. omega arith)))
+      (answered-yes _ _ _ _ (not-yes _ e) (part-no _ _ 2 (answered-no _ _ _ (above 1 512 (length plants) h)) (λ z. omega arith)))
       (λ z. omega arith)
       refl
 
-module _ (m : Month) (plants : List Plant) (profile metered lent : List ℕ) (l : Ledger) where
-  pub settle-many : (k n : ℕ) → k ≡ ownNumber m n (length profile) → n ≡ length plants → 512 < n → (r : Settled) → r ≡ unsettled m plants profile metered lent l k
-      → Ends m plants profile metered lent l r lent l
+  open-many : (ps qs : List Plant) → length ps ≡ length qs → 512 < length qs → openCall m ps profile t l ≡ openCall m qs profile t l
+  open-many ps qs same h = go (isOpen (m .stage)) refl
+    where
+      go : (b : Bool) → isOpen (m .stage) ≡ b → openCall m ps profile t l ≡ openCall m qs profile t l
+      go true e = sym (already ps e) ∙ already qs e
+      go false e = sym (many-rows ps e (omega arith)) ∙ many-rows qs e h
+
+  pub open-records : {x : OpenEnd} (n : ℕ) (c : List ℕ) (plants : List Plant) → Held plants n c → x ≡ openCall m (rowsOf n c) profile t l → x ≡ openCall m plants profile t l
+  open-records {x} = of-records (λ (ps : List Plant). x ≡ openCall m ps profile t l) (λ ps qs same h e. e ∙ open-many ps qs same h)
+
+module _ (m : Month) (profile metered lent : List ℕ) (l : Ledger) where
+  -- with the number that its size alone gives
+  settle-refused : (plants : List Plant) → 512 < length plants
+      → _≡_ {A = SettleEnd} (record { answer = unsettled m plants profile metered lent l (ownNumber m (length plants) (length profile)); allotment = lent; ledger = l }) (settleCall m plants profile metered lent l)
   unfolding inputsNumber
-  settle-many k n e count h r p =
-      let some : k ≡ 0 → ⊥ = λ z. (let o = own m n (length profile) k e z in let s = o .sizes .plants in omega arith) in
-      refused-inputs m plants profile metered lent l k (part-no _ _ k (e ∙ ap (λ (x : ℕ). ownNumber m x (length profile)) count) some) some r p
+  settle-refused plants h =
+      let k = ownNumber m (length plants) (length profile) in
+      let some : k ≡ 0 → ⊥ = λ z. (let o = own m (length plants) (length profile) k refl z in omega (arith, o .rows, o .sizes .plants)) in
+      refused-inputs m plants profile metered lent l k (part-no _ _ k refl some) some _ refl
+
+  settle-many : (ps qs : List Plant) → length ps ≡ length qs → 512 < length qs → settleCall m ps profile metered lent l ≡ settleCall m qs profile metered lent l
+  settle-many ps qs same h =
+      sym (settle-refused ps (omega arith))
+      ∙ (ap (λ (n : ℕ). record { answer = unsettled m qs profile metered lent l (ownNumber m n (length profile)); allotment = lent; ledger = l }) same ∙ settle-refused qs h)
+
+  pub settle-records : {x : SettleEnd} (n : ℕ) (c : List ℕ) (plants : List Plant) → Held plants n c → x ≡ settleCall m (rowsOf n c) profile metered lent l
+      → x ≡ settleCall m plants profile metered lent l
+  settle-records {x} = of-records (λ (ps : List Plant). x ≡ settleCall m ps profile metered lent l) (λ ps qs same h e. e ∙ settle-many ps qs same h)
+
+module _ (m : Month) (l : Ledger) where
+  stating-many : (lent : List ℕ) (ps qs : List Plant) → length ps ≡ length qs → 512 < length qs → statementCall m ps l lent ≡ statementCall m qs l lent
+  stating-many lent ps qs same h =
+      sym (statement-many m ps l (omega arith) lent)
+      ∙ (ap (λ (n : ℕ). record { answer = record { number = dueNumber m n; month = m; length = 0 }; bytes = lent }) same ∙ statement-many m qs l h lent)
+
+  pub statement-records : {x : StatementEnd} (lent : List ℕ) (n : ℕ) (c : List ℕ) (plants : List Plant) → Held plants n c → x ≡ statementCall m (rowsOf n c) l lent
+      → x ≡ statementCall m plants l lent
+  statement-records {x} lent = of-records (λ (ps : List Plant). x ≡ statementCall m ps l lent) (λ ps qs same h e. e ∙ stating-many lent ps qs same h)
+
+  pub size-records : {r : Sized} (n : ℕ) (c : List ℕ) (plants : List Plant) → Held plants n c → Sizing m (rowsOf n c) l r → Sizing m plants l r
+  size-records {r} = of-records (λ (ps : List Plant). Sizing m ps l r) (λ ps qs same h s. size-many m ps qs l same h s)

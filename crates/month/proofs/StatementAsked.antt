@@ -1,5 +1,5 @@
 -- The statement's questions answered yes: its figures are within limits, and what the two calls answer and leave. Assumes nothing.
-use mathlib.Core.Path.{_≡_, refl, sym, ap, ap₂, _∙_}
+use mathlib.Core.Path.{_≡_, refl, sym, ap, ap₂, _∙_, subst}
 use mathlib.Core.List.{List, [], _∷_, _++_, map}
 use Prim.Native.Nat.{ℕ, zero, suc, _+_, _-_, _≤_, _<_, zero-le}
 use native.Mathlib.Omega.{arith}
@@ -8,7 +8,8 @@ use lib.ListN.{length, drop, getD}
 use Rattle.lists.proofs.Questions.{asked, parted, both, limits, then-zero, yes, no, part-yes, part-no, all-yes, refuses, accepts}
 use Rattle.hour.specs.declared.Plant.{Plant}
 use Rattle.hour.specs.Table.{plantsOf}
-use Rattle.hour.proofs.Table.{length-plants}
+use Rattle.records.specs.Records.{columnOf, rowsOf}
+use Rattle.records.proofs.Figures.{length-rows, length-column, columns-rows}
 use Rattle.ledger.specs.Ledger.{Ledger}
 use Rattle.statement.specs.Statement.{statementText, roomFor}
 use Rattle.statement.specs.Lengths.{statementLength}
@@ -17,6 +18,7 @@ use Rattle.statement.specs.Laws.{InLimits}
 use Rattle.statement.proofs.Text.{text-columns}
 use Rattle.statement.proofs.Limits.{callable, promised}
 use Rattle.month.specs.declared.Month.{Month}
+use Rattle.month.specs.declared.Sized.{Sized}
 use Rattle.questions.specs.Questions.{placed, numbered, rowNumber, rowsNumber}
 use Rattle.month.specs.Statement.{dueNumber, sizingNumber, statementNumber, statementOf, StatementEnd, statementCall, Sizing}
 use Rattle.questions.proofs.Asked.{lengths}
@@ -97,20 +99,39 @@ module _ (m : Month) (plants : List Plant) (l : Ledger) (lent k r : ℕ) (e : k 
   unfolding statementNumber
   long h = part-yes _ _ k 0 e z (yes _ _ _ _ (le-leb (roomFor (m .plants)) lent (omega (arith, asks))) all-yes)
 
--- the statement of a table of five columns, written
-module _ (m : Month) (ss ns gs ls vs : List ℕ) (l : Ledger) (text : List ℕ) (k : ℕ) (e : k ≡ statementNumber m (plantsOf ss ns gs ls vs) l (length text)) (z : k ≡ 0) where
-  pub writable : length ns ≡ length ss → Stateable ss ns l × (statementLength (m .due - 1) (plantsOf ss ns [] [] []) l ≤ length text)
-  writable same =
-      let g = granted m (plantsOf ss ns gs ls vs) l (length text) k e z in
-      let c = callable (m .due - 1) ss ns gs ls vs l same (g .sized .limits) in
-      let rows = ap roomFor (sym (length-plants ss ns gs ls vs) ∙ g .sized .due .lent) in
-      (c .0, omega (arith, c .1, g .room, rows))
+-- the statement of the n rows that columns hold, written
+module _ (m : Month) (n : ℕ) (c : List ℕ) (l : Ledger) (text : List ℕ) (k : ℕ) (long : 2560 ≤ length c) (e : k ≡ statementNumber m (rowsOf n c) l (length text)) (z : k ≡ 0) where
+  g : Granted m (rowsOf n c) l (length text)
+  g = granted m (rowsOf n c) l (length text) k e z
 
-  pub written : (r : ℕ) (after : List ℕ) → Fills (statementText (m .due - 1) (plantsOf ss ns [] [] []) l) text r after
-      → _≡_ {A = StatementEnd} (record { answer = record { number = 0; month = m; length = r }; bytes = after }) (statementCall m (plantsOf ss ns gs ls vs) l text)
+  pub few : n ≤ 512
+  few = omega (arith, g .sized .limits .few, length-rows n c)
+
+  made : plantsOf (columnOf 0 n c) (columnOf 1 n c) (columnOf 2 n c) (columnOf 3 n c) (columnOf 4 n c) ≡ rowsOf n c
+  made = columns-rows n c long few
+
+  writable-columns : Stateable (columnOf 0 n c) (columnOf 1 n c) l × (statementLength (m .due - 1) (plantsOf (columnOf 0 n c) (columnOf 1 n c) [] [] []) l ≤ length text)
+  writable-columns =
+      let same = length-column n c long few 1 (omega arith) ∙ sym (length-column n c long few 0 (omega arith)) in
+      let inside = subst (λ (ps : List Plant). InLimits (m .due - 1) ps l) (sym made) (g .sized .limits) in
+      let w = callable (m .due - 1) (columnOf 0 n c) (columnOf 1 n c) (columnOf 2 n c) (columnOf 3 n c) (columnOf 4 n c) l same inside in
+      let rows = ap roomFor (length-column n c long few 0 (omega arith) ∙ (sym (length-rows n c) ∙ g .sized .due .lent)) in
+      (w .0, omega (arith, w .1, g .room, rows))
+
+  -- as the two columns that are shown are lent
+  pub writable : (ss ns : List ℕ) → ss ≡ columnOf 0 n c → ns ≡ columnOf 1 n c
+      → Stateable ss ns l × (statementLength (m .due - 1) (plantsOf ss ns [] [] []) l ≤ length text)
+  writable ss ns e₀ e₁ =
+      subst (λ (x : List ℕ). Stateable x ns l × (statementLength (m .due - 1) (plantsOf x ns [] [] []) l ≤ length text)) (sym e₀)
+      (subst (λ (x : List ℕ). Stateable (columnOf 0 n c) x l × (statementLength (m .due - 1) (plantsOf (columnOf 0 n c) x [] [] []) l ≤ length text)) (sym e₁) writable-columns)
+
+  pub written : (ss ns : List ℕ) → ss ≡ columnOf 0 n c → ns ≡ columnOf 1 n c → (r : ℕ) (after : List ℕ)
+      → Fills (statementText (m .due - 1) (plantsOf ss ns [] [] []) l) text r after
+      → _≡_ {A = StatementEnd} (record { answer = record { number = 0; month = m; length = r }; bytes = after }) (statementCall m (rowsOf n c) l text)
   unfolding statementOf statementCall
-  written r after f =
-      let same = sym (text-columns (m .due - 1) ss ns gs ls vs l) in
+  written ss ns e₀ e₁ r after f =
+      let same = (λ x. statementText (m .due - 1) (plantsOf (e₀ x) (e₁ x) [] [] []) l) ∙ sym (text-columns (m .due - 1) (columnOf 0 n c) (columnOf 1 n c) (columnOf 2 n c) (columnOf 3 n c) (columnOf 4 n c) l)
+      ∙ ap (λ (ps : List Plant). statementText (m .due - 1) ps l) made in
       accepts k _ _ _ _ e z
       (ap₂ (λ (n : ℕ) (b : List ℕ). record { answer = record { number = 0; month = m; length = n }; bytes = b })
       (f .size ∙ ap length same)
@@ -135,18 +156,33 @@ module _ (m : Month) (plants : List Plant) (l : Ledger) (k : ℕ) where
         most = λ _. omega (arith, asks);
       }
 
--- more rows lent than a month may have
-module _ (m : Month) (plants : List Plant) (l : Ledger) (k n : ℕ) (e : k ≡ dueNumber m n) (count : n ≡ length plants) (h : 512 < n) where
-  many : k ≡ 0 → ⊥
-  many z = let d = due m n k e z in omega (arith, d .plants, d .lent)
+-- more rows lent than a month may have: refused, with the number that their count alone gives
+module _ (m : Month) (plants : List Plant) (l : Ledger) (h : 512 < length plants) where
+  abbrev number : ℕ
+  number = dueNumber m (length plants)
 
-  asked-many : k ≡ sizingNumber m plants l
+  many : number ≡ 0 → ⊥
+  many z = let d = due m (length plants) number refl z in omega (arith, d .plants, d .lent)
+
+  asked-many : number ≡ sizingNumber m plants l
   unfolding sizingNumber
-  asked-many = part-no _ _ k (e ∙ ap (dueNumber m) count) many
+  asked-many = part-no _ _ number refl many
 
-  pub statement-many : (lent : List ℕ) → _≡_ {A = StatementEnd} (record { answer = record { number = k; month = m; length = 0 }; bytes = lent }) (statementCall m plants l lent)
+  pub statement-many : (lent : List ℕ)
+      → _≡_ {A = StatementEnd} (record { answer = record { number = number; month = m; length = 0 }; bytes = lent }) (statementCall m plants l lent)
   unfolding statementNumber statementCall
-  statement-many lent = refuses k _ _ _ _ (part-no _ _ k asked-many many) many refl
+  statement-many lent = refuses number _ _ _ _ (part-no _ _ number asked-many many) many refl
 
-  pub size-many : Sizing m plants l (record { number = k; month = m; size = 0 })
-  size-many = unsized m plants l k asked-many many
+-- a size of one such table is one of any other of as many rows
+pub size-many : (m : Month) (ps qs : List Plant) (l : Ledger) → length ps ≡ length qs → 512 < length qs → {r : Sized} → Sizing m ps l r → Sizing m qs l r
+size-many m ps qs l same h {r} s =
+    let k = r .number in
+    let is : k ≡ dueNumber m (length qs) = s .number ∙ (sym (asked-many m ps l (omega arith)) ∙ ap (dueNumber m) same) in
+    let some : k ≡ 0 → ⊥ = λ z. many m qs l h (sym is ∙ z) in
+    record {
+      number = is ∙ asked-many m qs l h;
+      month = s .month;
+      refused = s .refused;
+      enough = λ z. absurd (some z);
+      most = λ z. absurd (some z);
+    }

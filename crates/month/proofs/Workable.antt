@@ -24,11 +24,13 @@ use Rattle.hour.proofs.Figures.{allotment-at, allotment-sized, at-nets}
 use Rattle.hour.proofs.Limits.{sound}
 use Rattle.hour.proofs.Table.{plant, length-plants, plants-submarkets, plant-at}
 use Rattle.blocks.specs.Portion.{Standing}
+use Rattle.records.specs.Records.{columnOf, rowsOf}
+use Rattle.records.proofs.Figures.{length-rows, length-column, columns-rows}
 use Rattle.ledger.specs.Ledger.{Ledger, inBounds}
 use Rattle.ledger.specs.Posting.{Near, Postable}
 use Rattle.month.specs.declared.Month.{Month}
 use Rattle.questions.specs.Questions.{rowNumber, rowsNumber}
-use Rattle.month.specs.Steps.{Ready, inputsNumber}
+use Rattle.month.specs.Steps.{Ready, WorkableRows, inputsNumber}
 use Rattle.month.proofs.Accepted.{rows-standing}
 use Rattle.month.proofs.Asked.{Inputs, inputs}
 
@@ -72,57 +74,74 @@ module _ (ss ns gs ls vs : List ℕ) (same : Equal (length ss) ns gs ls vs) (e :
   availabilities-within = record { at = within-rows vs 1000000 (λ i h. limited i (omega (arith, same .availabilities)) .availability) }
 
 -- arrays of 2,048 figures and 512 nets have room for the hour
-pub roomy : (m : Month) (ss ns gs ls vs profile metered : List ℕ) (lent : ℕ) (l : Ledger) (k : ℕ)
-    → k ≡ inputsNumber m (plantsOf ss ns gs ls vs) profile metered lent l → k ≡ 0 → (lent ≤ 2048) × (length ss ≤ 512)
-roomy m ss ns gs ls vs profile metered lent l k e z =
-    let q = inputs m (plantsOf ss ns gs ls vs) profile metered lent l k e z in
-    let rows = length-plants ss ns gs ls vs in
+pub roomy : (m : Month) (n : ℕ) (c profile metered : List ℕ) (lent : ℕ) (l : Ledger) (k : ℕ) → k ≡ inputsNumber m (rowsOf n c) profile metered lent l → k ≡ 0
+    → (lent ≤ 2048) × (n ≤ 512)
+roomy m n c profile metered lent l k e z =
+    let q = inputs m (rowsOf n c) profile metered lent l k e z in
+    let rows = length-rows n c in
     let own = q .own .rows in
     let most = q .own .sizes .plants in
     let figures = q .meter .allotment in
     (omega arith, omega arith)
 
-module _ {m : Month} {ss ns gs ls vs profile metered lent : List ℕ} {l : Ledger} {figures : List ℕ} {lentNets : List ℤ}
-    (is : Ready m ss ns gs ls vs profile metered lent l figures lentNets) where
-  q : Inputs m (plantsOf ss ns gs ls vs) profile metered (length lent) l
-  q = inputs m (plantsOf ss ns gs ls vs) profile metered (length lent) l 0 (sym (is .asked)) refl
+module _ {m : Month} {n : ℕ} {c profile metered lent : List ℕ} {l : Ledger} {figures : List ℕ} {lentNets : List ℤ} (is : Ready m n c profile metered lent l figures lentNets) where
+  q : Inputs m (rowsOf n c) profile metered (length lent) l
+  q = inputs m (rowsOf n c) profile metered (length lent) l 0 (sym (is .asked)) refl
 
-  rows : length ss ≡ m .plants
-  rows = sym (length-plants ss ns gs ls vs) ∙ q .own .rows
+  rows : n ≡ m .plants
+  rows = sym (length-rows n c) ∙ q .own .rows
+
+  few : n ≤ 512
+  few = roomy m n c profile metered (length lent) l 0 (sym (is .asked)) refl .1
 
   pub due-small : m .due ≤ 744
   due-small = omega (arith, q .meter .due, q .own .sizes .periods)
 
-  pub workable : Workable ss ns gs ls vs profile (m .due) metered figures lentNets
-  workable =
+  sized : (k : ℕ) → k < 5 → length (columnOf k n c) ≡ n
+  sized = length-column n c (is .long) few
+
+  equal : Equal (length (columnOf 0 n c)) (columnOf 1 n c) (columnOf 2 n c) (columnOf 3 n c) (columnOf 4 n c)
+  equal =
+      let e = sym (sized 0 (omega arith)) in
+      record { numbers = sized 1 (omega arith) ∙ e; guarantees = sized 2 (omega arith) ∙ e; losses = sized 3 (omega arith) ∙ e; availabilities = sized 4 (omega arith) ∙ e }
+
+  made : plantsOf (columnOf 0 n c) (columnOf 1 n c) (columnOf 2 n c) (columnOf 3 n c) (columnOf 4 n c) ≡ rowsOf n c
+  made = columns-rows n c (is .long) few
+
+  workable-columns : Workable (columnOf 0 n c) (columnOf 1 n c) (columnOf 2 n c) (columnOf 3 n c) (columnOf 4 n c) profile (m .due) metered figures lentNets
+  workable-columns =
       let r = rows in
+      let w = sized 0 (omega arith) in
       let s = q .own .sizes in
       let t = q .meter in
-      let accepted = q .tables .rows in
+      let accepted = ap (rowsNumber 0 0) made ∙ q .tables .rows in
       record {
         some = omega arith;
         rows = omega arith;
-        equal = is .equal;
-        standing = standing ss ns gs ls vs (is .equal) accepted;
-        guarantees = guarantees-within ss ns gs ls vs (is .equal) accepted;
-        losses = losses-within ss ns gs ls vs (is .equal) accepted;
-        availabilities = availabilities-within ss ns gs ls vs (is .equal) accepted;
+        equal = equal;
+        standing = standing _ _ _ _ _ equal accepted;
+        guarantees = guarantees-within _ _ _ _ _ equal accepted;
+        losses = losses-within _ _ _ _ _ equal accepted;
+        availabilities = availabilities-within _ _ _ _ _ equal accepted;
         hourly = record { at = at-most-at profile (2 * 10 ^ 9) (q .tables .figures) };
         periods = omega (arith, q .own .figures);
         whole = q .tables .some;
         begun = t .begun;
         due = omega (arith, q .own .figures);
-        meters = t .meters ∙ sym r;
+        meters = omega (arith, t .meters);
         generation = omega (arith, t .generation, at-most-at profile (2 * 10 ^ 9) (q .tables .figures) (m .due - 1));
         figures = omega (arith, is .room);
-        netRows = is .netRows;
+        netRows = is .netRows ∙ sym w;
       }
 
+  pub workable : WorkableRows n c profile (m .due) metered figures lentNets
+  workable = record { long = is .long; few = few; columns = workable-columns }
+
   abbrev h : Hour
-  h = hourOf (plantsOf ss ns gs ls vs) profile metered (m .due)
+  h = hourOf (rowsOf n c) profile metered (m .due)
 
   ok : Sound h
-  ok = sound workable
+  ok = subst (λ (ps : List Plant). Sound (hourOf ps profile metered (m .due))) made (sound workable-columns)
 
   -- no figure of the hour is above the generation, no net above twice that
   allotment-within : Within (allotment h) (2 * 10 ^ 9)
@@ -130,7 +149,7 @@ module _ {m : Month} {ss ns gs ls vs profile metered lent : List ℕ} {l : Ledge
   allotment-within =
       record {
         at = λ j.
-            let g = workable .generation in
+            let g = workable-columns .generation in
             let a = figure-le h ok (j % 4 + 1) (omega arith) (omega arith) (j / 4) in
             let place : j % 4 + 1 - 1 + j / 4 * 4 ≡ j = omega arith in
             let e = ap (λ (k : ℕ). allotment h ! k) place in
@@ -143,7 +162,7 @@ module _ {m : Month} {ss ns gs ls vs profile metered lent : List ℕ} {l : Ledge
   nets-near =
       record {
         at = λ i.
-            let g = workable .generation in
+            let g = workable-columns .generation in
             let a = at-le-sum metered i in
             let b = share-le h ok i in
             let e = ap natAbs (at-nets h ok i) in
@@ -151,11 +170,11 @@ module _ {m : Month} {ss ns gs ls vs profile metered lent : List ℕ} {l : Ledge
             omega arith;
       }
 
-  nets-sized : length (nets h) ≡ length ss
+  nets-sized : length (nets h) ≡ n
   unfolding nets hourOf
   nets-sized =
       length-rowwise subℕ 0 0 metered (covered h ⊕ rights h)
-      ∙ (let a = whole-sized h ok in let b = workable .meters in let c = length-plants ss ns gs ls vs in omega arith)
+      ∙ (let a = whole-sized h ok in let b = q .meter .meters in let e = rows in omega (arith, length-rows n c))
 
   hour-postable : inBounds l ≡ true → Postable l (allotment h) (nets h) (m .tariff)
   unfolding hourOf
@@ -164,7 +183,7 @@ module _ {m : Month} {ss ns gs ls vs profile metered lent : List ℕ} {l : Ledge
       let t = q .tables .lengths in
       record {
         inside = inside;
-        figures = let a = allotment-sized h ok in let b = length-plants ss ns gs ls vs in omega (arith, t .allotted);
+        figures = let a = allotment-sized h ok in omega (arith, t .allotted, length-rows n c);
         rows = let a = nets-sized in omega (arith, t .accounts);
         allotmentSmall = allotment-within;
         netsSmall = nets-near;

@@ -15,14 +15,15 @@ ghost use mathlib.Core.List.{List};
 ghost use Prim.Native.Nat.{_+_, _≤_};
 ghost use lib.ListN.{length};
 ghost use Rattle.hour.specs.declared.Plant.{Plant};
-ghost use Rattle.hour.specs.Table.{plantsOf, Equal};
-ghost use Rattle.records.specs.Records.{Held};
+ghost use Rattle.hour.specs.Hour.{hourOf};
+ghost use Rattle.hour.specs.Work.{HourWorked};
+ghost use Rattle.records.specs.Records.{rowsOf, Held};
 ghost use Rattle.transfer.specs.Calls.{noTable};
 ghost use Rattle.ledger.specs.Ledger.{inBounds, added};
 ghost use Rattle.ledger.specs.Posting.{Postable, hourFigures};
 ghost use Rattle.month.specs.Questions.{ownNumber, meteredNumber, boundsNumber};
 ghost use Rattle.month.specs.Calls.{SettleEnd, settleCall};
-ghost use Rattle.month.specs.Steps.{Ready, inputsNumber};
+ghost use Rattle.month.specs.Steps.{Ready, WorkableRows, inputsNumber};
 
 // 12, then 2 to 4 for the month's own P, H and TEO, and 13 of the rows and the profile figures lent.
 pub fn own_number(month: Month, rows: u64, figures: u64) -> u64
@@ -72,35 +73,22 @@ pub fn metered_number(month: Month, profile: &[u64], metered: &[u64], lent: u64)
 // 12, 2 to 4, 13, 5 to 11, 14 to 18: all that settle asks before it works the hour.
 pub fn inputs_number(
     month: Month,
-    submarket: &[u64],
-    number: &[u64],
-    guarantee: &[u64],
-    loss: &[u64],
-    availability: &[u64],
+    n: usize,
+    columns: &[u64],
     profile: &[u64],
     metered: &[u64],
     lent: u64,
     allotted: &[u64],
     accounts: &[i64],
 ) -> u64
-    requires { ⌜ Equal (length (now submarket)) (now number) (now guarantee) (now loss) (now availability) ⌝ }
-    ensures { λ r. ⌜ r ≡ inputsNumber month (plantsOf (now (submarket .entry)) (now (number .entry)) (now (guarantee .entry)) (now (loss .entry)) (now (availability .entry))) (now (profile .entry)) (now (metered .entry)) lent (record { allotted = now (allotted .entry); accounts = now (accounts .entry) }) ⌝ }
+    requires { ⌜ 2560 ≤ length (now columns) ⌝ }
+    ensures { λ r. ⌜ r ≡ inputsNumber month (rowsOf n (now (columns .entry))) (now (profile .entry)) (now (metered .entry)) lent (record { allotted = now (allotted .entry); accounts = now (accounts .entry) }) ⌝ }
 {
-    let no = own_number(month, submarket.len() as u64, profile.len() as u64);
+    let no = own_number(month, n as u64, profile.len() as u64);
     if no != 0 {
         return no;
     }
-    let no = tables_number(
-        month.plants,
-        submarket,
-        number,
-        guarantee,
-        loss,
-        availability,
-        profile,
-        allotted,
-        accounts,
-    );
+    let no = tables_number(month.plants, n, columns, profile, allotted, accounts);
     if no != 0 {
         return no;
     }
@@ -125,6 +113,38 @@ pub fn bounds_number(
         return 0;
     }
     19
+}
+
+// The hour of the n rows that the columns hold.
+fn work_columns(
+    n: usize,
+    columns: &[u64],
+    profile: &[u64],
+    due: u64,
+    metered: &[u64],
+    figures: &mut [u64],
+    nets: &mut [i64],
+) -> Worked
+    requires { ⌜ WorkableRows n (now columns) (now profile) due (now metered) (now figures) (now nets) ⌝ }
+    ensures { λ r. ⌜ HourWorked (hourOf (rowsOf n (now (columns .entry))) (now (profile .entry)) (now (metered .entry)) due) r (now (figures .exit)) (now (nets .exit)) ⌝ }
+{
+    let submarket = records::column(columns, 0, n);
+    let number = records::column(columns, 1, n);
+    let guarantee = records::column(columns, 2, n);
+    let loss = records::column(columns, 3, n);
+    let availability = records::column(columns, 4, n);
+    hour::work(
+        submarket,
+        number,
+        guarantee,
+        loss,
+        availability,
+        profile,
+        due,
+        metered,
+        figures,
+        nets,
+    )
 }
 
 impl Month {
@@ -165,11 +185,8 @@ impl Month {
     // The hour of the period due, with all these answered yes: worked into `figures` and `nets`, and written where 19 is answered yes too.
     fn settle_hour(
         mut self,
-        submarket: &[u64],
-        number: &[u64],
-        guarantee: &[u64],
-        loss: &[u64],
-        availability: &[u64],
+        n: usize,
+        columns: &[u64],
         profile: &[u64],
         metered: &[u64],
         figures: &mut [u64],
@@ -178,21 +195,10 @@ impl Month {
         allotted: &mut [u64],
         accounts: &mut [i64],
     ) -> Settled
-        requires { ⌜ Ready self (now submarket) (now number) (now guarantee) (now loss) (now availability) (now profile) (now metered) (now allotment) (record { allotted = now allotted; accounts = now accounts }) (now figures) (now nets) ⌝ }
-        ensures { λ r. ⌜ _≡_ {A = SettleEnd} (record { answer = r; allotment = now (allotment .exit); ledger = record { allotted = now (allotted .exit); accounts = now (accounts .exit) } }) (settleCall self (plantsOf (now (submarket .entry)) (now (number .entry)) (now (guarantee .entry)) (now (loss .entry)) (now (availability .entry))) (now (profile .entry)) (now (metered .entry)) (now (allotment .entry)) (record { allotted = now (allotted .entry); accounts = now (accounts .entry) })) ⌝ }
+        requires { ⌜ Ready self n (now columns) (now profile) (now metered) (now allotment) (record { allotted = now allotted; accounts = now accounts }) (now figures) (now nets) ⌝ }
+        ensures { λ r. ⌜ _≡_ {A = SettleEnd} (record { answer = r; allotment = now (allotment .exit); ledger = record { allotted = now (allotted .exit); accounts = now (accounts .exit) } }) (settleCall self (rowsOf n (now (columns .entry))) (now (profile .entry)) (now (metered .entry)) (now (allotment .entry)) (record { allotted = now (allotted .entry); accounts = now (accounts .entry) })) ⌝ }
     {
-        let hour = hour::work(
-            submarket,
-            number,
-            guarantee,
-            loss,
-            availability,
-            profile,
-            self.due,
-            metered,
-            figures,
-            nets,
-        );
+        let hour = work_columns(n, columns, profile, self.due, metered, figures, nets);
         let no = bounds_number(allotted, accounts, figures, nets, self.tariff);
         if no != 0 {
             return self.unsettled(no);
@@ -202,60 +208,42 @@ impl Month {
         self.settled(hour)
     }
 
-    // Settle fills the allotment list, adds to the ledger and moves the period on. The plant table comes as five columns, equally long.
+    // Settle fills the allotment list, adds to the ledger and moves the period on. The plant table comes as the columns of n rows.
     pub fn settle_columns(
         mut self,
-        submarket: &[u64],
-        number: &[u64],
-        guarantee: &[u64],
-        loss: &[u64],
-        availability: &[u64],
+        n: usize,
+        columns: &[u64],
         profile: &[u64],
         metered: &[u64],
         allotment: &mut [u64],
         allotted: &mut [u64],
         accounts: &mut [i64],
     ) -> Settled
-        requires { ⌜ Equal (length (now submarket)) (now number) (now guarantee) (now loss) (now availability) ⌝ }
-        ensures { λ r. ⌜ _≡_ {A = SettleEnd} (record { answer = r; allotment = now (allotment .exit); ledger = record { allotted = now (allotted .exit); accounts = now (accounts .exit) } }) (settleCall self (plantsOf (now (submarket .entry)) (now (number .entry)) (now (guarantee .entry)) (now (loss .entry)) (now (availability .entry))) (now (profile .entry)) (now (metered .entry)) (now (allotment .entry)) (record { allotted = now (allotted .entry); accounts = now (accounts .entry) })) ⌝ }
+        requires { ⌜ 2560 ≤ length (now columns) ⌝ }
+        ensures { λ r. ⌜ _≡_ {A = SettleEnd} (record { answer = r; allotment = now (allotment .exit); ledger = record { allotted = now (allotted .exit); accounts = now (accounts .exit) } }) (settleCall self (rowsOf n (now (columns .entry))) (now (profile .entry)) (now (metered .entry)) (now (allotment .entry)) (record { allotted = now (allotted .entry); accounts = now (accounts .entry) })) ⌝ }
     {
-        let no = inputs_number(
-            self,
-            submarket,
-            number,
-            guarantee,
-            loss,
-            availability,
-            profile,
-            metered,
-            allotment.len() as u64,
-            allotted,
-            accounts,
-        );
+        let room = allotment.len();
+        let lent = room as u64;
+        let no = inputs_number(self, n, columns, profile, metered, lent, allotted, accounts);
         if no != 0 {
             return self.unsettled(no);
         }
         let mut figures = [0u64; 2048];
         let mut nets = [0i64; 512];
-        let room = allotment.len();
-        let rows = submarket.len();
         self.settle_hour(
-            submarket,
-            number,
-            guarantee,
-            loss,
-            availability,
+            n,
+            columns,
             profile,
             metered,
             &mut figures[..room],
-            &mut nets[..rows],
+            &mut nets[..n],
             allotment,
             allotted,
             accounts,
         )
     }
 
-    // Settle on the columns of n records. With more than 512 nothing of them is asked or read but their number.
+    // Settle on the columns of n records.
     pub fn settle_table(
         self,
         n: usize,
@@ -268,28 +256,7 @@ impl Month {
     ) -> Settled
         ensures { λ r. ⌜ ((plants : List Plant) → Held plants n c → _≡_ {A = SettleEnd} (record { answer = r; allotment = now (allotment .exit); ledger = record { allotted = now (allotted .exit); accounts = now (accounts .exit) } }) (settleCall self plants (now (profile .entry)) (now (metered .entry)) (now (allotment .entry)) (record { allotted = now (allotted .entry); accounts = now (accounts .entry) }))) ⌝ }
     {
-        if 512 < n {
-            let no = own_number(self, n as u64, profile.len() as u64);
-            return self.unsettled(no);
-        }
-        let all = &c[..];
-        let submarket = records::column(all, 0, n);
-        let number = records::column(all, 1, n);
-        let guarantee = records::column(all, 2, n);
-        let loss = records::column(all, 3, n);
-        let availability = records::column(all, 4, n);
-        self.settle_columns(
-            submarket,
-            number,
-            guarantee,
-            loss,
-            availability,
-            profile,
-            metered,
-            allotment,
-            allotted,
-            accounts,
-        )
+        self.settle_columns(n, &c[..], profile, metered, allotment, allotted, accounts)
     }
 
     // Settle fills the allotment list, adds to the ledger and moves the period on. The plant table is one lent list of records.

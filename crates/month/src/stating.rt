@@ -14,8 +14,7 @@ ghost use mathlib.Core.List.{List};
 ghost use Prim.Native.Nat.{_≤_};
 ghost use lib.ListN.{length};
 ghost use Rattle.hour.specs.declared.Plant.{Plant};
-ghost use Rattle.hour.specs.Table.{plantsOf, Equal};
-ghost use Rattle.records.specs.Records.{Held};
+ghost use Rattle.records.specs.Records.{rowsOf, Held};
 ghost use Rattle.statement.specs.Statement.{roomFor};
 ghost use Rattle.month.specs.Statement.{dueNumber, sizingNumber, statementNumber, StatementEnd, statementCall, Sizing};
 
@@ -45,22 +44,19 @@ pub fn due_number(month: Month, rows: u64) -> u64
 // What a sizing call asks: 21 to 14, then 5 to 8, 11, and 19 for the ledger at hand.
 pub fn sizing_number(
     month: Month,
-    submarket: &[u64],
-    number: &[u64],
-    guarantee: &[u64],
-    loss: &[u64],
-    availability: &[u64],
+    n: usize,
+    columns: &[u64],
     allotted: &[u64],
     accounts: &[i64],
 ) -> u64
-    requires { ⌜ Equal (length (now submarket)) (now number) (now guarantee) (now loss) (now availability) ⌝ }
-    ensures { λ r. ⌜ r ≡ sizingNumber month (plantsOf (now (submarket .entry)) (now (number .entry)) (now (guarantee .entry)) (now (loss .entry)) (now (availability .entry))) (record { allotted = now (allotted .entry); accounts = now (accounts .entry) }) ⌝ }
+    requires { ⌜ 2560 ≤ length (now columns) ⌝ }
+    ensures { λ r. ⌜ r ≡ sizingNumber month (rowsOf n (now (columns .entry))) (record { allotted = now (allotted .entry); accounts = now (accounts .entry) }) ⌝ }
 {
-    let no = due_number(month, submarket.len() as u64);
+    let no = due_number(month, n as u64);
     if no != 0 {
         return no;
     }
-    let no = rows_number(submarket, number, guarantee, loss, availability);
+    let no = rows_number(n, columns);
     if no != 0 {
         return no;
     }
@@ -85,28 +81,16 @@ pub fn room_for(plants: u64) -> u64
 // What the statement call asks: as a sizing call, then 22 of the bytes lent.
 pub fn statement_number(
     month: Month,
-    submarket: &[u64],
-    number: &[u64],
-    guarantee: &[u64],
-    loss: &[u64],
-    availability: &[u64],
+    n: usize,
+    columns: &[u64],
     allotted: &[u64],
     accounts: &[i64],
     lent: u64,
 ) -> u64
-    requires { ⌜ Equal (length (now submarket)) (now number) (now guarantee) (now loss) (now availability) ⌝ }
-    ensures { λ r. ⌜ r ≡ statementNumber month (plantsOf (now (submarket .entry)) (now (number .entry)) (now (guarantee .entry)) (now (loss .entry)) (now (availability .entry))) (record { allotted = now (allotted .entry); accounts = now (accounts .entry) }) lent ⌝ }
+    requires { ⌜ 2560 ≤ length (now columns) ⌝ }
+    ensures { λ r. ⌜ r ≡ statementNumber month (rowsOf n (now (columns .entry))) (record { allotted = now (allotted .entry); accounts = now (accounts .entry) }) lent ⌝ }
 {
-    let no = sizing_number(
-        month,
-        submarket,
-        number,
-        guarantee,
-        loss,
-        availability,
-        allotted,
-        accounts,
-    );
+    let no = sizing_number(month, n, columns, allotted, accounts);
     if no != 0 {
         return no;
     }
@@ -117,32 +101,19 @@ pub fn statement_number(
 }
 
 impl Month {
-    // The statement fills the front of the lent bytes and answers its length; the rest stays. The plant table comes as five columns, equally long.
+    // The statement fills the front of the lent bytes and answers its length; the rest stays. The plant table comes as the columns of n rows.
     pub fn statement_columns(
         mut self,
-        submarket: &[u64],
-        number: &[u64],
-        guarantee: &[u64],
-        loss: &[u64],
-        availability: &[u64],
+        n: usize,
+        columns: &[u64],
         allotted: &[u64],
         accounts: &[i64],
         bytes: &mut [u8],
     ) -> Stated
-        requires { ⌜ Equal (length (now submarket)) (now number) (now guarantee) (now loss) (now availability) ⌝ }
-        ensures { λ r. ⌜ _≡_ {A = StatementEnd} (record { answer = r; bytes = now (bytes .exit) }) (statementCall self (plantsOf (now (submarket .entry)) (now (number .entry)) (now (guarantee .entry)) (now (loss .entry)) (now (availability .entry))) (record { allotted = now (allotted .entry); accounts = now (accounts .entry) }) (now (bytes .entry))) ⌝ }
+        requires { ⌜ 2560 ≤ length (now columns) ⌝ }
+        ensures { λ r. ⌜ _≡_ {A = StatementEnd} (record { answer = r; bytes = now (bytes .exit) }) (statementCall self (rowsOf n (now (columns .entry))) (record { allotted = now (allotted .entry); accounts = now (accounts .entry) }) (now (bytes .entry))) ⌝ }
     {
-        let no = statement_number(
-            self,
-            submarket,
-            number,
-            guarantee,
-            loss,
-            availability,
-            allotted,
-            accounts,
-            bytes.len() as u64,
-        );
+        let no = statement_number(self, n, columns, allotted, accounts, bytes.len() as u64);
         if no != 0 {
             return Stated {
                 number: no,
@@ -151,6 +122,8 @@ impl Month {
             };
         }
         let settled = self.due - 1;
+        let submarket = records::column(columns, 0, n);
+        let number = records::column(columns, 1, n);
         let written = statement::writing::write_statement(
             settled,
             submarket,
@@ -166,30 +139,18 @@ impl Month {
         }
     }
 
-    // A size that the statement does not pass, at most 128P + 128. The plant table comes as five columns, equally long.
+    // A size that the statement does not pass, at most 128P + 128. The plant table comes as the columns of n rows.
     pub fn size_columns(
         mut self,
-        submarket: &[u64],
-        number: &[u64],
-        guarantee: &[u64],
-        loss: &[u64],
-        availability: &[u64],
+        n: usize,
+        columns: &[u64],
         allotted: &[u64],
         accounts: &[i64],
     ) -> Sized
-        requires { ⌜ Equal (length (now submarket)) (now number) (now guarantee) (now loss) (now availability) ⌝ }
-        ensures { λ r. ⌜ Sizing self (plantsOf (now (submarket .entry)) (now (number .entry)) (now (guarantee .entry)) (now (loss .entry)) (now (availability .entry))) (record { allotted = now (allotted .entry); accounts = now (accounts .entry) }) r ⌝ }
+        requires { ⌜ 2560 ≤ length (now columns) ⌝ }
+        ensures { λ r. ⌜ Sizing self (rowsOf n (now (columns .entry))) (record { allotted = now (allotted .entry); accounts = now (accounts .entry) }) r ⌝ }
     {
-        let no = sizing_number(
-            self,
-            submarket,
-            number,
-            guarantee,
-            loss,
-            availability,
-            allotted,
-            accounts,
-        );
+        let no = sizing_number(self, n, columns, allotted, accounts);
         if no != 0 {
             return Sized {
                 number: no,
@@ -205,7 +166,7 @@ impl Month {
         }
     }
 
-    // The statement on the columns of n records. With more than 512 nothing of them is asked or read but their number.
+    // The statement on the columns of n records.
     pub fn statement_table(
         self,
         n: usize,
@@ -216,59 +177,14 @@ impl Month {
     ) -> Stated
         ensures { λ r. ⌜ ((plants : List Plant) → Held plants n c → _≡_ {A = StatementEnd} (record { answer = r; bytes = now (bytes .exit) }) (statementCall self plants (record { allotted = now (allotted .entry); accounts = now (accounts .entry) }) (now (bytes .entry)))) ⌝ }
     {
-        if 512 < n {
-            let no = due_number(self, n as u64);
-            return Stated {
-                number: no,
-                month: self,
-                length: 0,
-            };
-        }
-        let all = &c[..];
-        let submarket = records::column(all, 0, n);
-        let number = records::column(all, 1, n);
-        let guarantee = records::column(all, 2, n);
-        let loss = records::column(all, 3, n);
-        let availability = records::column(all, 4, n);
-        self.statement_columns(
-            submarket,
-            number,
-            guarantee,
-            loss,
-            availability,
-            allotted,
-            accounts,
-            bytes,
-        )
+        self.statement_columns(n, &c[..], allotted, accounts, bytes)
     }
 
-    // The size on the columns of n records. With more than 512 nothing of them is asked or read but their number.
+    // The size on the columns of n records.
     pub fn size_table(self, n: usize, c: [u64; 2560], allotted: &[u64], accounts: &[i64]) -> Sized
         ensures { λ r. ⌜ ((plants : List Plant) → Held plants n c → Sizing self plants (record { allotted = now (allotted .entry); accounts = now (accounts .entry) }) r) ⌝ }
     {
-        if 512 < n {
-            let no = due_number(self, n as u64);
-            return Sized {
-                number: no,
-                month: self,
-                size: 0,
-            };
-        }
-        let all = &c[..];
-        let submarket = records::column(all, 0, n);
-        let number = records::column(all, 1, n);
-        let guarantee = records::column(all, 2, n);
-        let loss = records::column(all, 3, n);
-        let availability = records::column(all, 4, n);
-        self.size_columns(
-            submarket,
-            number,
-            guarantee,
-            loss,
-            availability,
-            allotted,
-            accounts,
-        )
+        self.size_columns(n, &c[..], allotted, accounts)
     }
 
     // The statement fills the front of the lent bytes and answers its length; the rest stays. The plant table is one lent list of records.

@@ -6,7 +6,7 @@ ghost use Prim.Native.Nat.{_*_, _^_, _≤_};
 ghost use lib.ListN.{length};
 ghost use Rattle.lists.specs.Lists.{sum, atMost};
 ghost use Rattle.lists.specs.Questions.{inRange};
-ghost use Rattle.hour.specs.Table.{plantsOf, Equal};
+ghost use Rattle.records.specs.Records.{rowsOf};
 ghost use Rattle.questions.specs.Questions.{plantsInLimits, periodsInLimits, sizesNumber, placed, numbered, rowNumber, rowsNumber, lengthsNumber, tablesNumber};
 
 // Is a figure from low up to high?
@@ -90,37 +90,31 @@ pub fn row_number(
     0
 }
 
-// 5 to 8, going down the rows.
-pub fn rows_number(
-    submarket: &[u64],
-    number: &[u64],
-    guarantee: &[u64],
-    loss: &[u64],
-    availability: &[u64],
-) -> u64
-    requires { ⌜ Equal (length (now submarket)) (now number) (now guarantee) (now loss) (now availability) ⌝ }
-    ensures { λ r. ⌜ r ≡ rowsNumber 0 0 (plantsOf (now (submarket .entry)) (now (number .entry)) (now (guarantee .entry)) (now (loss .entry)) (now (availability .entry))) ⌝ }
+// 5 to 8, going down the n rows that the plant table's columns hold.
+pub fn rows_number(n: usize, columns: &[u64]) -> u64
+    requires { ⌜ (n ≤ 512) × (2560 ≤ length (now columns)) ⌝ }
+    ensures { λ r. ⌜ r ≡ rowsNumber 0 0 (rowsOf n (now (columns .entry))) ⌝ }
 {
     let mut submarket_above: u64 = 0;
     let mut number_above: u64 = 0;
     let mut i: usize = 0;
-    while i < submarket.len() {
-        let s = submarket[i];
-        let n = number[i];
+    while i < n {
+        let submarket = columns[i];
+        let number = columns[512 + i];
         let no = row_number(
             submarket_above,
             number_above,
-            s,
-            n,
-            guarantee[i],
-            loss[i],
-            availability[i],
+            submarket,
+            number,
+            columns[1024 + i],
+            columns[1536 + i],
+            columns[2048 + i],
         );
         if no != 0 {
             return no;
         }
-        submarket_above = s;
-        number_above = n;
+        submarket_above = submarket;
+        number_above = number;
         i += 1;
     }
     0
@@ -154,23 +148,19 @@ pub fn lengths_number(plants: u64, allotted: &[u64], accounts: &[i64]) -> u64
     0
 }
 
-// 5 to 11, for P and H in limits.
+// 5 to 11 of n rows, for P and H in limits.
 pub fn tables_number(
     plants: u64,
-    submarket: &[u64],
-    number: &[u64],
-    guarantee: &[u64],
-    loss: &[u64],
-    availability: &[u64],
+    n: usize,
+    columns: &[u64],
     profile: &[u64],
     allotted: &[u64],
     accounts: &[i64],
 ) -> u64
-    requires { ⌜ Equal (length (now submarket)) (now number) (now guarantee) (now loss) (now availability) ⌝ }
-    requires { ⌜ (plants ≤ 512) × (length (now profile) ≤ 744) ⌝ }
-    ensures { λ r. ⌜ r ≡ tablesNumber plants (plantsOf (now (submarket .entry)) (now (number .entry)) (now (guarantee .entry)) (now (loss .entry)) (now (availability .entry))) (now (profile .entry)) (record { allotted = now (allotted .entry); accounts = now (accounts .entry) }) ⌝ }
+    requires { ⌜ (n ≤ 512) × (2560 ≤ length (now columns)) × (plants ≤ 512) × (length (now profile) ≤ 744) ⌝ }
+    ensures { λ r. ⌜ r ≡ tablesNumber plants (rowsOf n (now (columns .entry))) (now (profile .entry)) (record { allotted = now (allotted .entry); accounts = now (accounts .entry) }) ⌝ }
 {
-    let no = rows_number(submarket, number, guarantee, loss, availability);
+    let no = rows_number(n, columns);
     if no != 0 {
         return no;
     }

@@ -7,7 +7,7 @@ ghost use Rattle.records.specs.Records.{columnOf, Held, putRow, putRows}
 
 // Writes a record to place i of the five columns.
 pub fn put_row(columns: &mut [u64], i: usize, plant: Plant)
-    requires { ⌜ (length (now columns) ≡ 2560) × (i < 512) ⌝ }
+    requires { ⌜ (2560 ≤ length (now columns)) × (i < 512) ⌝ }
     ensures { λ _. ⌜ now (columns .exit) ≡ putRow (now (columns .entry)) i plant ⌝ }
 {
     columns[i] = plant.submarket;
@@ -19,7 +19,7 @@ pub fn put_row(columns: &mut [u64], i: usize, plant: Plant)
 
 // Writes the first n records to the five columns.
 pub fn copy_rows(plants: &[Plant], n: usize, columns: &mut [u64])
-    requires { ⌜ (length (now columns) ≡ 2560) × (n ≤ 512) × (n ≤ length (now plants)) ⌝ }
+    requires { ⌜ (2560 ≤ length (now columns)) × (n ≤ 512) × (n ≤ length (now plants)) ⌝ }
     ensures { λ _. ⌜ now (columns .exit) ≡ putRows (now (columns .entry)) 0 (take n (now (plants .entry))) ⌝ }
 {
     let mut i: usize = 0;
@@ -48,7 +48,7 @@ pub fn columns(plants: &[Plant]) -> [u64; 2560]
 
 // The first n figures of column k, counted from 0.
 pub fn column(columns: &[u64], k: usize, n: usize) -> &[u64]
-    requires { ⌜ (length (now columns) ≡ 2560) × (k < 5) × (n ≤ 512) ⌝ }
+    requires { ⌜ (2560 ≤ length (now columns)) × (k < 5) × (n ≤ 512) ⌝ }
     ensures { λ r. ⌜ (now r ≡ columnOf k n (now (columns .entry))) × (length (now r) ≡ n) ⌝ }
 {
     let first = 512 * k;

@@ -124,7 +124,7 @@ module _ {M : Type 1} (𝓤 : URA M) (H : Heap 𝓤) (A : Atoms 𝓤) (W : Given
       → ent 𝓤 (⋆ 𝓤 H A ((‵ (flft κ q) ⊛ ‵ (flft (ν ∷ []) fullShare)) ∷ ‵ Own ∷ ‵ (MutSlice (named 1) (ν ∷ []) u64 .own (x b δ zeros) (sliceVal (b, 0) 2560 ∷ [])) ∷ [])) (Copy 𝓤 H A mem run .pre (to-g ν δ b m))
   goes-g ν δ b m e =
       qed W ((‵ (flft κ q) ⊛ ‵ (flft (ν ∷ []) fullShare)) ∷ ‵ Own ∷ ‵ (MutSlice (named 1) (ν ∷ []) u64 .own (x b δ zeros) (sliceVal (b, 0) 2560 ∷ [])) ∷ []) ∵
-      says ! (length-replicate {A = ℕ} 2560 0, omega (arith, min-le-right (length ps) 512), omega (arith, min-le-left (length ps) 512)) $
+      says ! (omega (arith, length-replicate {A = ℕ} 2560 0), omega (arith, min-le-right (length ps) 512), omega (arith, min-le-left (length ps) 512)) $
       split ! $ nothing ! $ move ! (2 ∷ 0 ∷ []) $ join ! $ move ! (1 ∷ 0 ∷ []) $ join ! $ frame ! $
       nothing ! $ move ! (2 ∷ 0 ∷ []) $ fjoin ! $ owned ! usize (Is usize) (uint-makes 𝓤 H A W w64) m _ (refl, omega (arith, min-le-right (length ps) 512)) $ fjoin ! $ move ! (1 ∷ 0 ∷ []) $ fjoin ! $ done !
 
@@ -168,7 +168,7 @@ module _ {M : Type 1} (𝓤 : URA M) (H : Heap 𝓤) (A : Atoms 𝓤) (W : Given
         move ! (1 ∷ []) $ well-typed ! (λ wt. assigns ! (of-opd ! (load ! (from ! (stop !)) (look ! 0 refl))) (from ! (stop !)) (init ! 21 refl wt) $
         returns ! (look ! 21 refl) $ forget ! 0 refl $ forget ! 8 refl $ forget ! 10 refl $ forget ! 12 refl $ forget ! 14 refl $ forget ! 17 refl $ forget ! 19 refl $ forget ! 21 refl $
         move ! (21 ∷ 22 ∷ []) $ free1 ! $ move ! (19 ∷ 20 ∷ []) $ free1 ! $ move ! (17 ∷ 18 ∷ []) $ free1 ! $ move ! (0 ∷ 16 ∷ []) $ free1 ! $ move ! (13 ∷ 14 ∷ []) $ free1 ! $ move ! (11 ∷ 12 ∷ []) $ free1 ! $ move ! (9 ∷ 10 ∷ []) $ free1 ! $ move ! (7 ∷ 8 ∷ []) $ free1 ! $ free0 ! $
-        keep ! (2 ∷ 5 ∷ 0 ∷ []) $ by ! (exits (zs .1 .1 .0) (arrayVal (has .0)) (copied ps zeros m (zs .1 .1 .0) (length-replicate {A = ℕ} 2560 0) e wrote))))))))))))))))))))))))))
+        keep ! (2 ∷ 5 ∷ 0 ∷ []) $ by ! (exits (zs .1 .1 .0) (arrayVal (has .0)) (copied ps zeros m (zs .1 .1 .0) (omega (arith, length-replicate {A = ℕ} 2560 0)) e wrote))))))))))))))))))))))))))
 
 module _ {M : Type 1} (𝓤 : URA M) (H : Heap 𝓤) (A : Atoms 𝓤) (W : Given 𝓤 H A) (mem : Memory → SProp 𝓤) (run : Routine → Fun 𝓤) (𝓣 : Tables 𝓤 H) (known-c : Triple 𝓤 (𝓣 .C #records·capped) (Capped 𝓤 H A mem run)) (known-g : Triple 𝓤 (𝓣 .C #records·copy-rows) (Copy 𝓤 H A mem run)) where
   columns-walks : Walks 𝓤 H A f.ended stayed (WpFn 𝓤 H (𝓣 .C) (𝓣 .Λ) code.function) (f.clauses 𝓤 H A mem run)

@@ -84,7 +84,7 @@ abbrev PutRow : {M : Type 1} (𝓤 : URA M) (H : Heap 𝓤) (A : Atoms 𝓤) (me
 PutRow 𝓤 H A mem run = tripleOf 𝓤 H A g.signature (g.spec 𝓤 H A mem run)
 
 module _ {M : Type 1} (𝓤 : URA M) (H : Heap 𝓤) (A : Atoms 𝓤) (W : Given 𝓤 H A) (mem : Memory → SProp 𝓤) (run : Routine → Fun 𝓤) (κ κ′ : Lft) (q q′ : Share) (s : RefT (List Plant)) (n : ℕ) (b o : ℕ) (γ : GName) (xs : List ℕ)
-    (n-fits : n < 2 ^ 64) (many : length xs ≡ 2560) (few : n ≤ 512) (within : n ≤ length (s .now)) (roomP : Room P (length (s .now))) (roomC : Room u64 (length xs)) where
+    (n-fits : n < 2 ^ 64) (many : 2560 ≤ length xs) (few : n ≤ 512) (within : n ≤ length (s .now)) (roomP : Room P (length (s .now))) (roomC : Room u64 (length xs)) where
   abbrev ps : List Plant
   ps = s .now
 
@@ -126,7 +126,7 @@ module _ {M : Type 1} (𝓤 : URA M) (H : Heap 𝓤) (A : Atoms 𝓤) (W : Given
   abbrev to : ℕ → GName → List ℕ → ℕ → Plant → PutRow 𝓤 H A mem run .Ghost
   to ν δ ys i p = (((ν ∷ [], tt), (fullShare, tt), tt, (x δ ys, (i, (p, tt))), (vC ∷ [], (vint w64 i ∷ [], (T′.lowered p ∷ [], tt)))), tt)
 
-  goes : (ν : ℕ) (δ : GName) (ys : List ℕ) (i : ℕ) (p : Plant) → length ys ≡ 2560 → i < 512
+  goes : (ν : ℕ) (δ : GName) (ys : List ℕ) (i : ℕ) (p : Plant) → 2560 ≤ length ys → i < 512
       → ent 𝓤 (⋆ 𝓤 H A (‵ (flft (ν ∷ []) fullShare) ∷ ‵ (MutSlice (named 0) (ν ∷ []) u64 .own (x δ ys) (vC ∷ [])) ∷ ‵ (P .own p (T′.lowered p ∷ [])) ∷ [])) (PutRow 𝓤 H A mem run .pre (to ν δ ys i p))
   goes ν δ ys i p many′ small =
       qed W (‵ (flft (ν ∷ []) fullShare) ∷ ‵ (MutSlice (named 0) (ν ∷ []) u64 .own (x δ ys) (vC ∷ [])) ∷ ‵ (P .own p (T′.lowered p ∷ [])) ∷ []) ∵ says ! (many′, small) $ nothing ! $ move ! (1 ∷ 0 ∷ []) $ join ! $ frame ! $
@@ -169,7 +169,7 @@ module _ {M : Type 1} (𝓤 : URA M) (H : Heap 𝓤) (A : Atoms 𝓤) (W : Given
         lft-new ! tt (λ ν. move ! (29 ∷ 28 ∷ []) $ rewrite ! 0 (λ (m : ℕ). ‵ (MutSlice (named 1) κ′ u64 .own (x γ (t .ys)) (sliceVal (b, o) m ∷ []))) (sym (t .len)) refl $
         use2 W (later (some (λ (δ : GName). ‵ (MutSlice (named 0) (ν ∷ []) u64 .own (x δ (t .ys)) (sliceVal (b, o) (length (t .ys)) ∷ [])) ⊛ ‵ (LentAgain u64 κ′ (ν ∷ []) q′ γ b o δ (t .ys))))) (lends-again u64 κ′ (ν ∷ []) q′ γ b o 𝓤 H A W (named 1) (named 0) (t .ys)) $ await ! tt $ pick ! (λ δ. split ! $
         rewrite ! 0 (λ (m : ℕ). ‵ (MutSlice (named 0) (ν ∷ []) u64 .own (x δ (t .ys)) (sliceVal (b, o) m ∷ []))) (t .len) refl $
-        move ! (2 ∷ 0 ∷ 4 ∷ []) $ use3 W (raw (PutRow 𝓤 H A mem run .pre (to ν δ (t .ys) (t .i) row))) (goes ν δ (t .ys) (t .i) row (t .len ∙ many) (small less)) $
+        move ! (2 ∷ 0 ∷ 4 ∷ []) $ use3 W (raw (PutRow 𝓤 H A mem run .pre (to ν δ (t .ys) (t .i) row))) (goes ν δ (t .ys) (t .i) row (omega (arith, t .len)) (small less)) $
         -- [what the callee asks; what comes back; the token κ; OwnP; _11; …; _10; …; _9; …; _8; …]
         calls-at ! fm (PutRow 𝓤 H A mem run) known (to ν δ (t .ys) (t .i) row) (and-then ! (load ! (from ! (stop !)) (look ! 10 refl)) (and-then ! (load ! (from ! (stop !)) (look ! 18 refl)) (and-then ! (load ! (from ! (stop !)) (look ! 4 refl)) (no-more !)))) (λ w.
         use1 W (later (some (λ (r : Unit {0}). ((‵ (flft (ν ∷ []) fullShare) ⊛ ‵ ftrue) ⊛ ‵ (unit .own r (w ∷ []))) ⊛ raw (ensured 𝓤 H A g.ended (g.clauses 𝓤 H A mem run) (ν ∷ [], tt) (x δ (t .ys), (t .i, (row, tt))) tt r)))) (id⊢ 𝓤 _) $ await ! tt $ pick ! (λ r.

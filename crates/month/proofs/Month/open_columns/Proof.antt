@@ -6,8 +6,8 @@ use lib.IntN.{ℤ, pos}
 use lib.ListN.{length, replicate}
 use borrow.Author.Needs.{needs}
 use Rattle.lists.proofs.Questions.{outcomes, accepts}
-use Rattle.hour.specs.Table.{plantsOf}
-use Rattle.hour.proofs.Table.{length-plants}
+use Rattle.records.specs.Records.{rowsOf}
+use Rattle.records.proofs.Figures.{length-rows}
 use Rattle.ledger.specs.Ledger.{Ledger, zeros}
 use Rattle.month.specs.declared.Month.{Month}
 use Rattle.month.specs.declared.Stage.the-variants.{Open}
@@ -17,37 +17,37 @@ use Rattle.month.proofs.Asked.{opened}
 use Rattle.month.proofs.Month.open_columns.Statement.{statement}
 use Rattle.month.proofs.Month.open_columns.Tie as tie
 
-module _ (m : Month) (ss ns gs ls vs profile : List ℕ) (t k : ℕ) (l : Ledger) (e : k ≡ openNumber m (plantsOf ss ns gs ls vs) profile t l) (z : k ≡ 0) where
+module _ (m : Month) (n : ℕ) (c profile : List ℕ) (t k : ℕ) (l : Ledger) (e : k ≡ openNumber m (rowsOf n c) profile t l) (z : k ≡ 0) where
   zeroed : (a : List ℕ) (b : List ℤ) → a ≡ replicate (length (l .allotted)) 0 → b ≡ replicate (length (l .accounts)) (pos 0)
-      → _≡_ {A = Ledger} (record { allotted = a; accounts = b }) (zeros (length (plantsOf ss ns gs ls vs)))
+      → _≡_ {A = Ledger} (record { allotted = a; accounts = b }) (zeros (length (rowsOf n c)))
   unfolding zeros
   zeroed a b p q =
-      let f = opened m (plantsOf ss ns gs ls vs) profile t l (sym e ∙ z) .1 .lengths in
+      let f = opened m (rowsOf n c) profile t l (sym e ∙ z) .1 .lengths in
       ap₂ (λ x y. record { allotted = x; accounts = y })
-      (p ∙ ap (λ (n : ℕ). replicate n 0) (f .allotted))
-      (q ∙ ap (λ (n : ℕ). replicate n (pos 0)) (f .accounts))
+      (p ∙ ap (λ (k : ℕ). replicate k 0) (f .allotted))
+      (q ∙ ap (λ (k : ℕ). replicate k (pos 0)) (f .accounts))
 
   is-open : (a : List ℕ) (b : List ℤ) → a ≡ replicate (length (l .allotted)) 0 → b ≡ replicate (length (l .accounts)) (pos 0)
       → _≡_ {A = OpenEnd}
       (record {
-        answer = record { number = 0; month = record { stage = Open; plants = length ss; periods = length profile; tariff = t; due = 1 } };
+        answer = record { number = 0; month = record { stage = Open; plants = n; periods = length profile; tariff = t; due = 1 } };
         ledger = record { allotted = a; accounts = b };
       })
-      (openCall m (plantsOf ss ns gs ls vs) profile t l)
+      (openCall m (rowsOf n c) profile t l)
   unfolding openCall
   is-open a b p q =
       accepts k _ _ _ _ e z
-      (ap₂ (λ (n : ℕ) (w : Ledger). record {
-        answer = record { number = 0; month = record { stage = Open; plants = n; periods = length profile; tariff = t; due = 1 } };
+      (ap₂ (λ (p : ℕ) (w : Ledger). record {
+        answer = record { number = 0; month = record { stage = Open; plants = p; periods = length profile; tariff = t; due = 1 } };
         ledger = w;
       })
-      (sym (length-plants ss ns gs ls vs)) (zeroed a b p q))
+      (sym (length-rows n c)) (zeroed a b p q))
 
 returns-2 : tie.Need-returns-2
 returns-2 c =
     let zeros = c .before .before .before .before .before in
     let asked = zeros .before .before in
-    is-open _ _ _ _ _ _ _ _ _ _ (asked .before .open-number .ensures) (asked .if1 .left) _ _ (zeros .zero-figures .ensures) (c .before .zero-accounts .ensures)
+    is-open _ _ _ _ _ _ _ (asked .before .open-number .ensures) (asked .if1 .left) _ _ (zeros .zero-figures .ensures) (c .before .zero-accounts .ensures)
 
 pub open-columns-spec : {M : Type 1} → statement M
 unfolding openCall

@@ -9,40 +9,36 @@ use Rattle.month.proofs.Workable.{roomy}
 use Rattle.month.proofs.Ends.{refused-inputs}
 use Rattle.month.proofs.Month.settle_columns.Statement.{statement}
 use Rattle.month.proofs.Month.settle_columns.Tie as tie
-use Rattle.month.proofs.Month.settle_columns.Reads as reads
-use Rattle.month.proofs.Month.settle_columns.Lts as lts
 
 returns : tie.Need-returns
 returns c = refused-inputs _ _ _ _ _ _ _ (c .before .before .inputs-number .ensures) (c .before .if1 .taken) _ (c .unsettled .ensures)
 
 -- the arrays have room for 512 plants
-room : (c : tie.Else1) → (length (c .before .before .before .before .before .before .before .before .before .before .before .before .before .args .allotment .now) ≤ 2048) × (length (c .before .before .before .before .before .before .before .before .before .before .before .before .before .args .submarket .now) ≤ 512)
-room c = roomy _ _ _ _ _ _ _ _ _ _ _ (c .before .inputs-number .ensures) (c .if1 .left)
+room : (c : tie.Else1) → (length (c .before .before .before .before .before .before .before .before .before .args .allotment .now) ≤ 2048) × (c .before .before .before .before .before .before .before .before .before .args .n ≤ 512)
+room c = roomy _ _ _ _ _ _ _ _ (c .before .inputs-number .ensures) (c .if1 .left)
 
 array-borrow-prefix-figures : tie.Need-array-borrow-prefix-figures
 array-borrow-prefix-figures c = room c .0
 
 slice-aggregate-settle-hour : tie.Need-slice-aggregate-settle-hour
-slice-aggregate-settle-hour c = sym (length-take-le (length (c .before .before .before .before .before .before .before .before .before .before .before .before .before .before .args .allotment .now)) (replicate 2048 0) (room (c .before) .0))
+slice-aggregate-settle-hour c = sym (length-take-le (length (c .before .before .before .before .before .before .before .before .before .before .args .allotment .now)) (replicate 2048 0) (room (c .before) .0))
 
 array-borrow-prefix-nets : tie.Need-array-borrow-prefix-nets
 array-borrow-prefix-nets c = room (c .before) .1
 
 slice-aggregate-settle-hour-2 : tie.Need-slice-aggregate-settle-hour-2
-slice-aggregate-settle-hour-2 c = sym (length-take-le (length (c .before .before .before .before .before .before .before .before .before .before .before .before .before .before .before .args .submarket .now)) (replicate 512 (pos 0)) (room (c .before .before) .1))
+slice-aggregate-settle-hour-2 c = sym (length-take-le (c .before .before .before .before .before .before .before .before .before .before .before .args .n) (replicate 512 (pos 0)) (room (c .before .before) .1))
 
 settle-hour-requires : tie.Need-settle-hour-requires
 settle-hour-requires c κs =
     let asked = c .before .before .before .before .before in
+    let start = asked .before .before .before .before .before .before .before .before .before in
     record {
-      equal = asked .before .before .before .before .before .before .before .before .before .before .before .before .before .pre;
+      long = start .pre;
       asked = sym (asked .before .inputs-number .ensures) ∙ asked .if1 .left;
-      room = length-take-le (length (asked .before .before .before .before .before .before .before .before .before .before .before .before .before .args .allotment .now)) (replicate 2048 0) (room asked .0);
-      netRows = length-take-le (length (asked .before .before .before .before .before .before .before .before .before .before .before .before .before .args .submarket .now)) (replicate 512 (pos 0)) (room asked .1);
+      room = length-take-le (length (start .args .allotment .now)) (replicate 2048 0) (room asked .0);
+      netRows = length-take-le (start .args .n) (replicate 512 (pos 0)) (room asked .1);
     }
-
-returns-2 : tie.Need-returns-2
-returns-2 c = c .before .before .before .before .before .before .before .settle-hour .ensures
 
 pub settle-columns-spec : {M : Type 1} → statement M
 settle-columns-spec =
@@ -61,4 +57,4 @@ settle-columns-spec =
     (λ c. search needs)  -- same-length-3
     (λ c. search needs)  -- same-length-4
     (λ c. search needs)  -- same-length-5
-    returns-2)
+    (λ c. search needs))  -- returns-2

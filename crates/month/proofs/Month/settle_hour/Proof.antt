@@ -7,52 +7,49 @@ use native.Mathlib.Omega.{arith}
 use lib.IntN.{ℤ}
 use lib.ListN.{length}
 use borrow.Author.Needs.{needs}
-use Rattle.hour.specs.Work.{Workable}
 use Rattle.month.proofs.Asked.{bounds}
 use Rattle.month.proofs.Workable.{due-small, workable, postable}
 use Rattle.month.proofs.Ends.{refused-bounds, written}
 use Rattle.month.proofs.Month.settle_hour.Statement.{statement}
 use Rattle.month.proofs.Month.settle_hour.Tie as tie
-use Rattle.month.proofs.Month.settle_hour.Reads as reads
-use Rattle.month.proofs.Month.settle_hour.Lts as lts
 
-work-requires : tie.Need-work-requires
-work-requires c κs = workable (c .before .before .before .before .before .before .before .before .before .before .before .before .pre)
+work-columns-requires : tie.Need-work-columns-requires
+work-columns-requires c κs = workable (c .before .before .before .before .before .before .before .before .pre)
 
 -- where the hour was worked: what settle was handed
-start : tie.After-work → tie.Start
-start c = c .before .before .before .before .before .before .before .before .before .before .before .before .before
+start : tie.After-work-columns → tie.Start
+start c = c .before .before .before .before .before .before .before .before .before
 
 bounds-number-requires : tie.Need-bounds-number-requires
 unfolding start
-bounds-number-requires c κs = let worked = c .before .before .before .before .before .before .before in postable (start worked .pre) (worked .work .ensures)
+bounds-number-requires c κs = let worked = c .before .before .before .before .before .before .before in postable (start worked .pre) (worked .work-columns .ensures)
 
 returns : tie.Need-returns
 unfolding start
 returns c =
     let worked = c .before .before .before .before .before .before .before .before .before .before in
-    refused-bounds _ _ _ _ _ _ (start worked .pre .asked) _ _ _ (worked .work .ensures) _ (c .before .before .bounds-number .ensures) (c .before .if1 .taken) _ (c .unsettled .ensures)
+    refused-bounds _ _ _ _ _ _ (start worked .pre .asked) _ _ _ (worked .work-columns .ensures) _ (c .before .before .bounds-number .ensures) (c .before .if1 .taken) _ (c .unsettled .ensures)
 
 copy-into-requires : tie.Need-copy-into-requires
 unfolding start
-copy-into-requires c κs = let worked = c .before .before .before .before .before .before .before .before .before .before .before in omega (arith, worked .work .kept .1 .1 .1 .1 .1 .1 .1 .1 .0, start worked .pre .room)
+copy-into-requires c κs = let worked = c .before .before .before .before .before .before .before .before .before .before .before in omega (arith, worked .work-columns .kept .1 .1 .1 .1 .1 .0, start worked .pre .room)
 
 post-requires : tie.Need-post-requires
 unfolding start
 post-requires c κs =
     let asked = c .before .before .before .before .before .before .before .before .before in
     let worked = c .before .before .before .before .before .before .before .before .before .before .before .before .before .before .before .before .before .before in
-    postable (start worked .pre) (worked .work .ensures) (bounds _ _ _ (asked .before .bounds-number .ensures) (asked .if1 .left))
+    postable (start worked .pre) (worked .work-columns .ensures) (bounds _ _ _ (asked .before .bounds-number .ensures) (asked .if1 .left))
 
 settled-requires : tie.Need-settled-requires
 unfolding start
 settled-requires c κs = due-small (start (c .before .before .before .before .before .before .before .before .before .before .before .before .before .before .before .before .before .before .before .before .before .before) .pre)
 
 same-length-5 : tie.Need-same-length-5
-same-length-5 c = c .before .before .before .before .before .before .before .before .before .before .before .before .before .before .before .before .before .before .before .before .before .before .before .work .kept .1 .1 .1 .1 .1 .1 .1 .1 .0
+same-length-5 c = c .before .before .before .before .before .before .before .before .before .before .before .before .before .before .before .before .before .before .before .before .before .before .before .work-columns .kept .1 .1 .1 .1 .1 .0
 
 same-length-6 : tie.Need-same-length-6
-same-length-6 c = c .before .before .before .before .before .before .before .before .before .before .before .before .before .before .before .before .before .before .before .before .before .before .before .work .kept .1 .1 .1 .1 .1 .1 .1 .1 .1 .0
+same-length-6 c = c .before .before .before .before .before .before .before .before .before .before .before .before .before .before .before .before .before .before .before .before .before .before .before .work-columns .kept .1 .1 .1 .1 .1 .1 .0
 
 returns-2 : tie.Need-returns-2
 unfolding start
@@ -62,15 +59,15 @@ returns-2 c =
     let asked = copy .before .before .before in
     let worked = c .before .before .before .before .before .before .before .before .before .before .before .before .before .before .before .before .before .before .before .before .before .before .before in
     let s = start worked in
-    written _ _ _ _ _ _ (s .pre .asked) _ _ _ (worked .work .ensures) _ (asked .before .bounds-number .ensures) (asked .if1 .left)
-    (worked .work .kept .1 .1 .1 .1 .1 .1 .1 .1 .0 ∙ s .pre .room) _ (c .settled .ensures) _ _ _
+    written _ _ _ _ _ _ (s .pre .asked) _ _ _ (worked .work-columns .ensures) _ (asked .before .bounds-number .ensures) (asked .if1 .left)
+    (worked .work-columns .kept .1 .1 .1 .1 .1 .0 ∙ s .pre .room) _ (c .settled .ensures) _ _ _
     (copy .copy-into .ensures) (post .post .ensures .0) (post .post .ensures .1)
 
 pub settle-hour-spec : {M : Type 1} → statement M
 settle-hour-spec =
     tie.close
     (tie.spec
-    work-requires
+    work-columns-requires
     bounds-number-requires
     (λ c κs. search needs)  -- unsettled-requires
     (λ c. search needs)  -- same-length

@@ -1,52 +1,16 @@
--- `Month::size_table` meets its contract: more than 512 rows are refused unread; else the columns make the records that they hold. Assumes nothing.
+-- `Month::size_table` meets its contract: the columns make the records that they hold, and more than 512 rows are refused whatever they are. Assumes nothing.
 use borrow.Author.Needs.{needs}
-use mathlib.Core.Path.{_≡_, subst}
-use mathlib.Core.List.{List}
-use native.Mathlib.Omega.{arith}
-use Rattle.hour.specs.declared.Plant.{Plant}
-use Rattle.records.proofs.Figures.{made-of}
-use Rattle.ledger.specs.Ledger.{Ledger}
-use Rattle.month.specs.declared.Month.{Month}
-use Rattle.month.specs.declared.Sized.{Sized}
-use Rattle.month.specs.Statement.{Sizing}
-use Rattle.month.proofs.StatementAsked.{size-many}
+use Rattle.month.proofs.Many.{size-records}
 use Rattle.month.proofs.Month.size_table.Statement.{statement}
 use Rattle.month.proofs.Month.size_table.Tie as tie
 
-same-rows : (r : Sized) (m : Month) (ps qs : List Plant) (l : Ledger) → Sizing m ps l r → ps ≡ qs → Sizing m qs l r
-same-rows r m ps qs l s rows = subst (λ (rs : List Plant). Sizing m rs l r) rows s
-
 returns : tie.Need-returns
-returns c plants h = size-many _ plants _ _ _ (c .due-number .ensures) (h .count) (omega arith)
-
-returns-2 : tie.Need-returns-2
-returns-2 c plants h =
-    let a = c in
-    let a₄ = a .before in
-    let a₃ = a₄ .before in
-    let a₂ = a₃ .before in
-    let a₁ = a₂ .before in
-    let a₀ = a₁ .before in
-    let start = a₀ .before .before .before .before in
-    same-rows _ _ _ _ _ (a .size-columns .ensures)
-    (made-of _ _ (start .good .1 .1 .0 .1 .0 .1) (omega arith) plants h _ _ _ _ _
-    (a₀ .column .ensures .0)
-    (a₁ .column2 .ensures .0)
-    (a₂ .column3 .ensures .0)
-    (a₃ .column4 .ensures .0)
-    (a₄ .column5 .ensures .0))
+returns c plants h = size-records _ _ _ _ plants h (c .size-columns .ensures)
 
 pub size-table-spec : {M : Type 1} → statement M
 size-table-spec =
     tie.close
     (tie.spec
-    (λ c κs. search needs)  -- due-number-requires
-    returns
-    (λ c. search needs)  -- slice-aggregate-all
-    (λ c κs. search needs)  -- column-requires
-    (λ c κs. search needs)  -- column-requires-2
-    (λ c κs. search needs)  -- column-requires-3
-    (λ c κs. search needs)  -- column-requires-4
-    (λ c κs. search needs)  -- column-requires-5
+    (λ c. search needs)  -- slice-aggregate-size-columns
     (λ c κs. search needs)  -- size-columns-requires
-    returns-2)
+    returns)

@@ -2,7 +2,7 @@
 use borrow.Author.Needs.{needs}
 use native.Mathlib.Omega.{arith}
 use Rattle.lists.proofs.Questions.{asks}
-use Rattle.hour.proofs.Table.{length-plants}
+use Rattle.records.proofs.Figures.{length-rows}
 use Rattle.month.specs.Steps.{inputsNumber}
 use Rattle.month.proofs.Asked.{own}
 use Rattle.month.proofs.settle.inputs_number.Statement.{statement}
@@ -11,7 +11,7 @@ use Rattle.month.proofs.settle.inputs_number.Tie as tie
 tables-number-requires : tie.Need-tables-number-requires
 tables-number-requires c κs =
     let o = own _ _ _ _ (c .before .own-number .ensures) (c .if1 .left) in
-    (search needs, omega arith)
+    (omega (arith, o .rows, o .sizes .plants), search needs, omega arith, omega arith)
 
 metered-number-requires : tie.Need-metered-number-requires
 metered-number-requires c κs =
@@ -24,8 +24,8 @@ inputs-number-spec =
     tie.close
     (tie.spec
     (λ c κs. search needs)  -- own-number-requires
-    (λ c. simp length-plants (search asks depth 9))
+    (λ c. simp length-rows (search asks depth 9))
     tables-number-requires
-    (λ c. simp length-plants (search asks depth 9))
+    (λ c. simp length-rows (search asks depth 9))
     metered-number-requires
-    (λ c. simp length-plants (search asks depth 9)))
+    (λ c. simp length-rows (search asks depth 9)))

@@ -2,11 +2,16 @@
 use borrow.Author.Needs.{needs}
 use native.Mathlib.Omega.{arith}
 use Rattle.lists.proofs.Questions.{asks}
-use Rattle.hour.proofs.Table.{length-plants}
+use Rattle.records.proofs.Figures.{length-rows}
 use Rattle.month.specs.Statement.{sizingNumber}
 use Rattle.month.proofs.StatementAsked.{due}
 use Rattle.month.proofs.stating.sizing_number.Statement.{statement}
 use Rattle.month.proofs.stating.sizing_number.Tie as tie
+
+rows-number-requires : tie.Need-rows-number-requires
+rows-number-requires c κs =
+    let d = due _ _ _ (c .before .due-number .ensures) (c .if1 .left) in
+    (omega (arith, d .plants, d .lent), search needs)
 
 lengths-number-requires : tie.Need-lengths-number-requires
 lengths-number-requires c κs =
@@ -19,11 +24,11 @@ sizing-number-spec =
     tie.close
     (tie.spec
     (λ c κs. search needs)  -- due-number-requires
-    (λ c. simp length-plants (search asks depth 9))
-    (λ c κs. search needs)  -- rows-number-requires
-    (λ c. simp length-plants (search asks depth 9))
+    (λ c. simp length-rows (search asks depth 9))
+    rows-number-requires
+    (λ c. simp length-rows (search asks depth 9))
     lengths-number-requires
-    (λ c. simp length-plants (search asks depth 9))
+    (λ c. simp length-rows (search asks depth 9))
     (λ c κs. search needs)  -- in-bounds-requires
-    (λ c. simp length-plants (search asks depth 9))
-    (λ c. simp length-plants (search asks depth 9)))
+    (λ c. simp length-rows (search asks depth 9))
+    (λ c. simp length-rows (search asks depth 9)))

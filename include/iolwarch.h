@@ -38,6 +38,9 @@ extern "C" {
 /* The stack that a call needs, in bytes. */
 #define IOLWARCH_STACK 98304
 
+/* The places that a month file's plant table needs: 512 for each of its five columns. */
+#define IOLWARCH_COLUMNS 2560
+
 /* The numbers, from the questions of document 01. Each line says what must hold; where it does not, its number is
  * answered. P is the number of plants, H the number of periods, TEO the tariff.
  *
@@ -312,11 +315,14 @@ iolwarch_place iolwarch_field(const uint8_t *line, size_t line_length, uint64_t 
  * in between. Any content will do at the start. iolwarch_workspace, below, has them all.
  *
  *     line                         8,192 bytes   the line that has begun
- *     submarket .. availability      512 each    the columns of the plant table
+ *     columns                      2,560         the plant table
  *     profile                        744         the profile
  *     allotted                     2,048         the ledger
  *     accounts                     1,024
  *     text                        65,664 bytes   for finish: the statement, or the refusal
+ *
+ * The plant table lies in IOLWARCH_COLUMNS figures, column by column in the order of a P line (submarket, number,
+ * guarantee, loss, availability): 512 places for each column, of which the rows that were read take the first.
  *
  * Longer lists will do; only so much of them is used. Each call looks over the table and the ledger that are kept, so
  * few long parts are cheaper than many short ones. */
@@ -341,11 +347,7 @@ iolwarch_file iolwarch_file_begin(void);
 iolwarch_fed iolwarch_file_feed(iolwarch_file file,
                                 const uint8_t *part, size_t part_length,
                                 uint8_t *line, size_t line_length,
-                                uint64_t *submarket, size_t submarket_length,
-                                uint64_t *number, size_t number_length,
-                                uint64_t *guarantee, size_t guarantee_length,
-                                uint64_t *loss, size_t loss_length,
-                                uint64_t *availability, size_t availability_length,
+                                uint64_t *columns, size_t columns_length,
                                 uint64_t *profile, size_t profile_length,
                                 uint64_t *allotted, size_t allotted_length,
                                 int64_t *accounts, size_t accounts_length);
@@ -360,11 +362,7 @@ iolwarch_fed iolwarch_file_feed(iolwarch_file file,
  */
 iolwarch_finished iolwarch_file_finish(iolwarch_file file,
                                        const uint8_t *line, size_t line_length,
-                                       const uint64_t *submarket, size_t submarket_length,
-                                       const uint64_t *number, size_t number_length,
-                                       const uint64_t *guarantee, size_t guarantee_length,
-                                       const uint64_t *loss, size_t loss_length,
-                                       const uint64_t *availability, size_t availability_length,
+                                       const uint64_t *columns, size_t columns_length,
                                        const uint64_t *profile, size_t profile_length,
                                        const uint64_t *allotted, size_t allotted_length,
                                        const int64_t *accounts, size_t accounts_length,
@@ -374,11 +372,7 @@ iolwarch_finished iolwarch_file_finish(iolwarch_file file,
 typedef struct {
     iolwarch_file file;
     uint8_t line[8192];
-    uint64_t submarket[512];
-    uint64_t number[512];
-    uint64_t guarantee[512];
-    uint64_t loss[512];
-    uint64_t availability[512];
+    uint64_t columns[IOLWARCH_COLUMNS];
     uint64_t profile[744];
     uint64_t allotted[4 * 512];
     int64_t accounts[2 * 512];
@@ -394,9 +388,8 @@ static inline void iolwarch_workspace_begin(iolwarch_workspace *w)
 /* The next part. Answers the feed's number. */
 static inline uint64_t iolwarch_workspace_feed(iolwarch_workspace *w, const uint8_t *part, size_t length)
 {
-    iolwarch_fed fed = iolwarch_file_feed(
-        w->file, part, length, w->line, sizeof w->line, w->submarket, 512, w->number, 512, w->guarantee, 512, w->loss,
-        512, w->availability, 512, w->profile, 744, w->allotted, 4 * 512, w->accounts, 2 * 512);
+    iolwarch_fed fed = iolwarch_file_feed(w->file, part, length, w->line, sizeof w->line, w->columns, IOLWARCH_COLUMNS,
+                                          w->profile, 744, w->allotted, 4 * 512, w->accounts, 2 * 512);
     w->file = fed.file;
     return fed.number;
 }
@@ -404,9 +397,8 @@ static inline uint64_t iolwarch_workspace_feed(iolwarch_workspace *w, const uint
 /* After the last part: answers the finish's number and how many bytes of w->text are the file's output. */
 static inline iolwarch_finished iolwarch_workspace_finish(iolwarch_workspace *w)
 {
-    return iolwarch_file_finish(w->file, w->line, sizeof w->line, w->submarket, 512, w->number, 512, w->guarantee, 512,
-                                w->loss, 512, w->availability, 512, w->profile, 744, w->allotted, 4 * 512, w->accounts,
-                                2 * 512, w->text, sizeof w->text);
+    return iolwarch_file_finish(w->file, w->line, sizeof w->line, w->columns, IOLWARCH_COLUMNS, w->profile, 744,
+                                w->allotted, 4 * 512, w->accounts, 2 * 512, w->text, sizeof w->text);
 }
 
 /* Shares a total over weights: the i-th part is floor(total x Ci / W) - floor(total x C(i-1) / W), where Ci is the sum

@@ -14,11 +14,11 @@ const SEED: u64 = 26_31;
 const FILES: u64 = 8;
 const LONG: usize = 200_000;
 
-/// The lengths that include/iolwarch.h asks for: the table's five columns, profile, allotted, two of them by their place;
-/// and those of the other lists.
-const FIGURES: [usize; 7] = [512, 512, 512, 512, 512, 744, 4 * 512];
-const SUBMARKET: usize = 0;
-const ALLOTTED: usize = 6;
+/// The lengths that include/iolwarch.h asks for: the table's columns, profile, allotted, two of them by their place; and
+/// those of the other lists.
+const FIGURES: [usize; 3] = [5 * 512, 744, 4 * 512];
+const COLUMNS: usize = 0;
+const ALLOTTED: usize = 2;
 const LINE: usize = 8192;
 const ACCOUNTS: usize = 2 * 512;
 const TEXT: usize = 128 * 512 + 128;
@@ -49,7 +49,7 @@ pub fn run(count: &mut Count) {
 #[derive(Clone, PartialEq)]
 struct Lists {
     line: Lent<u8>,
-    figures: [Lent<u64>; 7],
+    figures: [Lent<u64>; 3],
     accounts: Lent<i64>,
     text: Lent<u8>,
 }
@@ -67,24 +67,16 @@ impl Lists {
         }
     }
 
-    #[rustfmt::skip]
     fn feed(&mut self, file: File, part: &[u8]) -> Fed {
-        let [submarket, number, guarantee, loss, availability, profile, allotted] =
-            self.figures.each_mut().map(Lent::list);
+        let [columns, profile, allotted] = self.figures.each_mut().map(Lent::list);
         let (line, accounts) = (self.line.list(), self.accounts.list());
-        recorder::feed(
-            file, part, line, submarket, number, guarantee, loss, availability, profile, allotted, accounts,
-        )
+        recorder::feed(file, part, line, columns, profile, allotted, accounts)
     }
 
-    #[rustfmt::skip]
     fn finish(&mut self, file: File) -> Finished {
-        let [submarket, number, guarantee, loss, availability, profile, allotted] =
-            self.figures.each_mut().map(Lent::list);
+        let [columns, profile, allotted] = self.figures.each_mut().map(Lent::list);
         let (line, accounts, text) = (self.line.list(), self.accounts.list(), self.text.list());
-        recorder::finish(
-            file, line, submarket, number, guarantee, loss, availability, profile, allotted, accounts, text,
-        )
+        recorder::finish(file, line, columns, profile, allotted, accounts, text)
     }
 
     /// As they are in memory: the compiler may believe that a call does not write to a list lent for reading.
@@ -187,7 +179,7 @@ fn refused(count: &mut Count, random: &mut Random, file: File, lists: &Lists) {
     }
     if file.stage == 2 {
         let mut other = [lists.clone(), lists.clone(), lists.clone()];
-        other[0].figures[SUBMARKET].list()[0] = 5;
+        other[0].figures[COLUMNS].list()[0] = 5;
         other[1].figures[ALLOTTED].list()[0] = u64::MAX;
         other[2].accounts.list()[0] = i64::MIN;
         for lists in other {

@@ -154,11 +154,7 @@ module _ (f : MonthFile) (k : Kept) (v : Valid f k) (line part : List ℕ) (from
 -- the lists have the lengths that they had
 pub record Alike (line₀ : List ℕ) (k₀ : Kept) (line : List ℕ) (k : Kept) : Type 0 where
   pub bytes : length line ≡ length line₀
-  pub submarket : length (k .submarket) ≡ length (k₀ .submarket)
-  pub number : length (k .number) ≡ length (k₀ .number)
-  pub guarantee : length (k .guarantee) ≡ length (k₀ .guarantee)
-  pub loss : length (k .loss) ≡ length (k₀ .loss)
-  pub availability : length (k .availability) ≡ length (k₀ .availability)
+  pub columns : length (k .columns) ≡ length (k₀ .columns)
   pub profile : length (k .profile) ≡ length (k₀ .profile)
   pub allotted : length (k .allotted) ≡ length (k₀ .allotted)
   pub accounts : length (k .accounts) ≡ length (k₀ .accounts)
@@ -167,11 +163,7 @@ pub alike-self : {line : List ℕ} {k : Kept} → Alike line k line k
 alike-self =
     record {
       bytes = refl;
-      submarket = refl;
-      number = refl;
-      guarantee = refl;
-      loss = refl;
-      availability = refl;
+      columns = refl;
       profile = refl;
       allotted = refl;
       accounts = refl;
@@ -183,11 +175,7 @@ module _ {line₀ : List ℕ} {k₀ : Kept} {line : List ℕ} {k : Kept} {line�
   alike-more a s =
       record {
         bytes = s .bytes ∙ a .bytes;
-        submarket = s .submarket ∙ a .submarket;
-        number = s .number ∙ a .number;
-        guarantee = s .guarantee ∙ a .guarantee;
-        loss = s .loss ∙ a .loss;
-        availability = s .availability ∙ a .availability;
+        columns = s .columns ∙ a .columns;
         profile = s .profile ∙ a .profile;
         allotted = s .allotted ∙ a .allotted;
         accounts = s .accounts ∙ a .accounts;
@@ -197,11 +185,7 @@ pub bytes-alike : {line line₁ : List ℕ} {k : Kept} → length line₁ ≡ le
 bytes-alike l =
     record {
       bytes = l;
-      submarket = refl;
-      number = refl;
-      guarantee = refl;
-      loss = refl;
-      availability = refl;
+      columns = refl;
       profile = refl;
       allotted = refl;
       accounts = refl;

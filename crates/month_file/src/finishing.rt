@@ -62,18 +62,14 @@ fn at_end(file: MonthFile, line: &[u8]) -> MonthFile
 // Every period is settled: the month is closed, and its statement written.
 fn write_month(
     file: MonthFile,
-    submarket: &[u64],
-    number: &[u64],
-    guarantee: &[u64],
-    loss: &[u64],
-    availability: &[u64],
+    columns: &[u64],
     profile: &[u64],
     allotted: &[u64],
     accounts: &[i64],
     text: &mut [u8],
 ) -> usize
-    requires { ⌜ Finishable file (kept (now submarket) (now number) (now guarantee) (now loss) (now availability) (now profile) (now allotted) (now accounts)) × (128 * 512 + 128 ≤ length (now text)) ⌝ }
-    ensures { λ r. ⌜ Fills (printed (file .count) (progressOf file (kept (now (submarket .entry)) (now (number .entry)) (now (guarantee .entry)) (now (loss .entry)) (now (availability .entry)) (now (profile .entry)) (now (allotted .entry)) (now (accounts .entry))))) (now (text .entry)) r (now (text .exit)) ⌝ }
+    requires { ⌜ Finishable file (kept (now columns) (now profile) (now allotted) (now accounts)) × (128 * 512 + 128 ≤ length (now text)) ⌝ }
+    ensures { λ r. ⌜ Fills (printed (file .count) (progressOf file (kept (now (columns .entry)) (now (profile .entry)) (now (allotted .entry)) (now (accounts .entry))))) (now (text .entry)) r (now (text .exit)) ⌝ }
 {
     let month = file.month;
     let end = month.close();
@@ -84,10 +80,12 @@ fn write_month(
     let rows = month.plants as usize;
     let fours = 4 * rows;
     let twos = 2 * rows;
+    let submarket = records::column(columns, 0, rows);
+    let number = records::column(columns, 1, rows);
     write_statement(
         closed.due - 1,
-        &submarket[..rows],
-        &number[..rows],
+        submarket,
+        number,
         &allotted[..fours],
         &accounts[..twos],
         text,
@@ -98,34 +96,19 @@ fn write_month(
 pub fn finish(
     file: MonthFile,
     line: &[u8],
-    submarket: &[u64],
-    number: &[u64],
-    guarantee: &[u64],
-    loss: &[u64],
-    availability: &[u64],
+    columns: &[u64],
     profile: &[u64],
     allotted: &[u64],
     accounts: &[i64],
     text: &mut [u8],
 ) -> usize
     requires { ⌜ (8192 ≤ length (now line)) × (128 * 512 + 128 ≤ length (now text)) ⌝ }
-    requires { ⌜ Valid file (kept (now submarket) (now number) (now guarantee) (now loss) (now availability) (now profile) (now allotted) (now accounts)) ⌝ }
-    ensures { λ r. ⌜ Fills (finished (readingOf file (kept (now (submarket .entry)) (now (number .entry)) (now (guarantee .entry)) (now (loss .entry)) (now (availability .entry)) (now (profile .entry)) (now (allotted .entry)) (now (accounts .entry))) (now (line .entry)))) (now (text .entry)) r (now (text .exit)) ⌝ }
+    requires { ⌜ Valid file (kept (now columns) (now profile) (now allotted) (now accounts)) ⌝ }
+    ensures { λ r. ⌜ Fills (finished (readingOf file (kept (now (columns .entry)) (now (profile .entry)) (now (allotted .entry)) (now (accounts .entry))) (now (line .entry)))) (now (text .entry)) r (now (text .exit)) ⌝ }
 {
     let end = at_end(file, line);
     if 2 < end.stage {
         return write_refusal(end.count, end.number, text);
     }
-    write_month(
-        end,
-        submarket,
-        number,
-        guarantee,
-        loss,
-        availability,
-        profile,
-        allotted,
-        accounts,
-        text,
-    )
+    write_month(end, columns, profile, allotted, accounts, text)
 }

@@ -28,33 +28,17 @@ fn take_part(
     part: &[u8],
     got: isize,
     line: &mut [u8],
-    submarket: &mut [u64],
-    number: &mut [u64],
-    guarantee: &mut [u64],
-    loss: &mut [u64],
-    availability: &mut [u64],
+    columns: &mut [u64],
     profile: &mut [u64],
     allotted: &mut [u64],
     accounts: &mut [i64],
 ) -> MonthFile
     requires { ⌜ 8192 ≤ length (now line) ⌝ }
-    requires { ⌜ Valid file (kept (now submarket) (now number) (now guarantee) (now loss) (now availability) (now profile) (now allotted) (now accounts)) ⌝ }
-    ensures { λ r. ⌜ Fed file (kept (now (submarket .entry)) (now (number .entry)) (now (guarantee .entry)) (now (loss .entry)) (now (availability .entry)) (now (profile .entry)) (now (allotted .entry)) (now (accounts .entry))) (now (line .entry)) (take (clamped got (length (now (part .entry)))) (now (part .entry))) r (kept (now (submarket .exit)) (now (number .exit)) (now (guarantee .exit)) (now (loss .exit)) (now (availability .exit)) (now (profile .exit)) (now (allotted .exit)) (now (accounts .exit))) (now (line .exit)) ⌝ }
+    requires { ⌜ Valid file (kept (now columns) (now profile) (now allotted) (now accounts)) ⌝ }
+    ensures { λ r. ⌜ Fed file (kept (now (columns .entry)) (now (profile .entry)) (now (allotted .entry)) (now (accounts .entry))) (now (line .entry)) (take (clamped got (length (now (part .entry)))) (now (part .entry))) r (kept (now (columns .exit)) (now (profile .exit)) (now (allotted .exit)) (now (accounts .exit))) (now (line .exit)) ⌝ }
 {
     let n = io::count(got, part);
-    feed(
-        file,
-        &part[..n],
-        line,
-        submarket,
-        number,
-        guarantee,
-        loss,
-        availability,
-        profile,
-        allotted,
-        accounts,
-    )
+    feed(file, &part[..n], line, columns, profile, allotted, accounts)
 }
 
 // Feeds what standard input holds, part by part, to its end. No contract says where `whole` is true: `libc::read` alone knows of the end. Nothing
@@ -63,18 +47,14 @@ fn take_input(
     file: MonthFile,
     part: &mut [u8],
     line: &mut [u8],
-    submarket: &mut [u64],
-    number: &mut [u64],
-    guarantee: &mut [u64],
-    loss: &mut [u64],
-    availability: &mut [u64],
+    columns: &mut [u64],
     profile: &mut [u64],
     allotted: &mut [u64],
     accounts: &mut [i64],
 ) -> Input
     requires { ⌜ 8192 ≤ length (now line) ⌝ }
-    requires { ⌜ Valid file (kept (now submarket) (now number) (now guarantee) (now loss) (now availability) (now profile) (now allotted) (now accounts)) ⌝ }
-    ensures { λ r. ⌜ Taken (place file (kept (now (submarket .entry)) (now (number .entry)) (now (guarantee .entry)) (now (loss .entry)) (now (availability .entry)) (now (profile .entry)) (now (allotted .entry)) (now (accounts .entry))) (now (line .entry))) (place (r .file) (kept (now (submarket .exit)) (now (number .exit)) (now (guarantee .exit)) (now (loss .exit)) (now (availability .exit)) (now (profile .exit)) (now (allotted .exit)) (now (accounts .exit))) (now (line .exit))) ⌝ }
+    requires { ⌜ Valid file (kept (now columns) (now profile) (now allotted) (now accounts)) ⌝ }
+    ensures { λ r. ⌜ Taken (place file (kept (now (columns .entry)) (now (profile .entry)) (now (allotted .entry)) (now (accounts .entry))) (now (line .entry))) (place (r .file) (kept (now (columns .exit)) (now (profile .exit)) (now (allotted .exit)) (now (accounts .exit))) (now (line .exit))) ⌝ }
 {
     let mut file = file;
     let mut turns = u64::MAX;
@@ -84,20 +64,7 @@ fn take_input(
             let whole = got == 0;
             return Input { file, whole };
         }
-        file = take_part(
-            file,
-            part,
-            got,
-            line,
-            submarket,
-            number,
-            guarantee,
-            loss,
-            availability,
-            profile,
-            allotted,
-            accounts,
-        );
+        file = take_part(file, part, got, line, columns, profile, allotted, accounts);
         turns -= 1;
     }
     let whole = false;
@@ -109,51 +76,23 @@ fn take_input(
 fn settle_input(
     part: &mut [u8],
     line: &mut [u8],
-    submarket: &mut [u64],
-    number: &mut [u64],
-    guarantee: &mut [u64],
-    loss: &mut [u64],
-    availability: &mut [u64],
+    columns: &mut [u64],
     profile: &mut [u64],
     allotted: &mut [u64],
     accounts: &mut [i64],
     text: &mut [u8],
 ) -> usize
     requires { ⌜ (8192 ≤ length (now line)) × (128 * 512 + 128 ≤ length (now text)) ⌝ }
-    requires { ⌜ Lent (kept (now submarket) (now number) (now guarantee) (now loss) (now availability) (now profile) (now allotted) (now accounts)) ⌝ }
+    requires { ⌜ Lent (kept (now columns) (now profile) (now allotted) (now accounts)) ⌝ }
     ensures { λ r. ⌜ Settled (now (text .entry)) r (now (text .exit)) ⌝ }
 {
     let file = fresh();
-    let input = take_input(
-        file,
-        part,
-        line,
-        submarket,
-        number,
-        guarantee,
-        loss,
-        availability,
-        profile,
-        allotted,
-        accounts,
-    );
+    let input = take_input(file, part, line, columns, profile, allotted, accounts);
     if !input.whole {
         return 0;
     }
     let end = input.file;
-    finish(
-        end,
-        line,
-        submarket,
-        number,
-        guarantee,
-        loss,
-        availability,
-        profile,
-        allotted,
-        accounts,
-        text,
-    )
+    finish(end, line, columns, profile, allotted, accounts, text)
 }
 
 // Writes a line to standard error. Where that fails too, nobody can be told.
@@ -164,11 +103,7 @@ fn tell(line: &[u8]) {
 fn main() {
     let mut part = [0u8; 65536];
     let mut line = [0u8; 8192];
-    let mut submarket = [0u64; 512];
-    let mut number = [0u64; 512];
-    let mut guarantee = [0u64; 512];
-    let mut loss = [0u64; 512];
-    let mut availability = [0u64; 512];
+    let mut columns = [0u64; 2560];
     let mut profile = [0u64; 744];
     let mut allotted = [0u64; 2048];
     let mut accounts = [0i64; 1024];
@@ -176,11 +111,7 @@ fn main() {
     let length = settle_input(
         &mut part,
         &mut line,
-        &mut submarket,
-        &mut number,
-        &mut guarantee,
-        &mut loss,
-        &mut availability,
+        &mut columns,
         &mut profile,
         &mut allotted,
         &mut accounts,

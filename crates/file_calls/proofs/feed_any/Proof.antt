@@ -15,19 +15,11 @@ feed-any-spec =
     (λ c. refl)  -- same-length-3
     (λ c. refl)  -- same-length-4
     (λ c. refl)  -- same-length-5
-    (λ c. refl)  -- same-length-6
-    (λ c. refl)  -- same-length-7
-    (λ c. refl)  -- same-length-8
-    (λ c. refl)  -- same-length-9
     (λ c. feed-refused (c .before .feed-number .ensures) (c .if1 .taken))  -- returns
-    (λ c κs. let g = feed-good (c .before .before .before .before .before .before .before .before .before .before .feed-number .ensures) (c .before .before .before .before .before .before .before .before .before .if1 .left) in (g .0 .bytes, g .1))  -- feed-requires
-    (λ c. c .before .before .before .before .before .before .before .before .before .before .before .before .before .before .before .before .before .feed .kept .1 .1 .0)  -- same-length-10
-    (λ c. c .before .before .before .before .before .before .before .before .before .before .before .before .before .before .before .before .before .feed .kept .1 .1 .1 .0)  -- same-length-11
-    (λ c. c .before .before .before .before .before .before .before .before .before .before .before .before .before .before .before .before .before .feed .kept .1 .1 .1 .1 .0)  -- same-length-12
-    (λ c. c .before .before .before .before .before .before .before .before .before .before .before .before .before .before .before .before .before .feed .kept .1 .1 .1 .1 .1 .0)  -- same-length-13
-    (λ c. c .before .before .before .before .before .before .before .before .before .before .before .before .before .before .before .before .before .feed .kept .1 .1 .1 .1 .1 .1 .0)  -- same-length-14
-    (λ c. c .before .before .before .before .before .before .before .before .before .before .before .before .before .before .before .before .before .feed .kept .1 .1 .1 .1 .1 .1 .1 .0)  -- same-length-15
-    (λ c. c .before .before .before .before .before .before .before .before .before .before .before .before .before .before .before .before .before .feed .kept .1 .1 .1 .1 .1 .1 .1 .1 .0)  -- same-length-16
-    (λ c. c .before .before .before .before .before .before .before .before .before .before .before .before .before .before .before .before .before .feed .kept .1 .1 .1 .1 .1 .1 .1 .1 .1 .0)  -- same-length-17
-    (λ c. c .before .before .before .before .before .before .before .before .before .before .before .before .before .before .before .before .before .feed .kept .1 .1 .1 .1 .1 .1 .1 .1 .1 .1 .0)  -- same-length-18
-    (λ c. feed-taken _ _ _ _ _ (c .before .before .before .before .before .before .before .before .before .before .before .before .before .before .before .before .before .before .before .before .before .before .before .before .before .before .before .before .feed-number .ensures) (c .before .before .before .before .before .before .before .before .before .before .before .before .before .before .before .before .before .before .before .before .before .before .before .before .before .before .before .if1 .left) (c .before .before .before .before .before .before .before .before .before .before .before .before .before .before .before .before .before .feed .ensures)))  -- returns-2
+    (λ c κs. let g = feed-good (c .before .before .before .before .before .before .feed-number .ensures) (c .before .before .before .before .before .if1 .left) in (g .0 .bytes, g .1))  -- feed-requires
+    (λ c. c .before .before .before .before .before .before .before .before .before .feed .kept .1 .1 .0)  -- same-length-6
+    (λ c. c .before .before .before .before .before .before .before .before .before .feed .kept .1 .1 .1 .0)  -- same-length-7
+    (λ c. c .before .before .before .before .before .before .before .before .before .feed .kept .1 .1 .1 .1 .0)  -- same-length-8
+    (λ c. c .before .before .before .before .before .before .before .before .before .feed .kept .1 .1 .1 .1 .1 .0)  -- same-length-9
+    (λ c. c .before .before .before .before .before .before .before .before .before .feed .kept .1 .1 .1 .1 .1 .1 .0)  -- same-length-10
+    (λ c. feed-taken _ _ _ _ _ (c .before .before .before .before .before .before .before .before .before .before .before .before .before .before .before .before .feed-number .ensures) (c .before .before .before .before .before .before .before .before .before .before .before .before .before .before .before .if1 .left) (c .before .before .before .before .before .before .before .before .before .feed .ensures)))  -- returns-2

@@ -1,18 +1,19 @@
 /* Iolwarch: the reallocation ledger (MRE) of hydropower plants, in whole kWh.
  *
- * Link with target/staticlib/librecorder.a, which `rt staticlib recorder` writes (x86-64 Linux). The functions keep
- * nothing between calls, allocate nothing, end on every input, and may be called from any thread.
+ * Link with target/staticlib/librecorder.a, which `rt staticlib recorder` writes (x86-64 Linux). It needs memcpy and
+ * memset of the C library, and nothing else. The functions keep nothing between calls, allocate nothing, end on every
+ * input, and may be called from any thread, by several at once on lists of their own.
  *
  * Every call but iolwarch_file_begin, which has nothing to refuse, answers a number: 0 when it did what it is for, and
  * otherwise the number of the first question that was answered no (table below). A refusal changes nothing: every list
  * is as it was, the month, or a file's state, is the caller's own, and every other part of the answer but the number is
  * zero.
  *
- * Lists. A list is a pointer and its length, counted in elements. The pointer is never NULL, also where the length is
- * 0; it is aligned for its element. During a call nobody else writes to a list that the call reads, or touches a list
- * that the call writes. So a list that a call writes overlaps none of the call's other lists. What figures a list
- * holds is free: no value in it makes a call go wrong. No zero byte is written behind a statement or a text: go by the
- * length that the call answers.
+ * Lists. A list is a pointer and its length, counted in elements, and has that many elements behind the pointer. The
+ * pointer is never NULL, also where the length is 0; it is aligned for its element. During a call nobody else writes to
+ * a list that the call reads, or touches a list that the call writes, and a list that the call writes overlaps none of
+ * its other lists. What figures a list holds is free: no value in it makes a call go wrong. No zero byte is written
+ * behind a statement or a text: go by the length that the call answers.
  *
  * The month goes from call to call by value: keep the one that a call hands back, and pass it to the next. It and the
  * ledger's two lists are all that goes on; plants, profile, metered figures and the allotment list belong to one call.
@@ -42,7 +43,8 @@ extern "C" {
 #define IOLWARCH_COLUMNS 2560
 
 /* The numbers, from the questions of document 01. Each line says what must hold; where it does not, its number is
- * answered. P is the number of plants, H the number of periods, TEO the tariff.
+ * answered. P is the number of plants, H the number of periods, TEO the tariff. 5 to 8 are put row by row: all four of
+ * a row before the first of the next.
  *
  *    0  every question was answered yes
  *
@@ -67,8 +69,9 @@ extern "C" {
  *   16  each metered figure is at most 2 x 10^9 kWh
  *   17  their sum equals the profile's figure for the period due
  *   18  the allotment list has exactly 4P figures
- *   19  every ledger figure is inside its bound, before and after: 0 to 1,488 x 10^9 kWh allotted, nets within
- *       1,488 x 10^9 kWh of zero, money within 1,488 x 10^13 thousandths of a centavo of zero
+ *   19  every ledger figure is inside its bound: 0 to 1,488 x 10^9 kWh allotted, nets within 1,488 x 10^9 kWh of
+ *       zero, money within 1,488 x 10^13 thousandths of a centavo of zero; in settle before and after the hour is
+ *       added, in balance and statement of the ledger as it is
  *
  *  Closing, balance, statement
  *   20  the last period is settled, so that H + 1 is due
@@ -130,7 +133,8 @@ typedef struct {
     iolwarch_month month;
 } iolwarch_end;
 
-/* The answer of settle: Z, A (the sum of the guarantees after losses and availability) and both transfer tables. */
+/* The answer of settle: Z (the secondary energy), A (the sum of the guarantees after losses and availability), and both
+ * transfer tables: by which deficits were covered, and by which secondary energy was shared. */
 typedef struct {
     uint64_t number;
     iolwarch_month month;
@@ -171,7 +175,7 @@ typedef struct {
     uint64_t fields;
 } iolwarch_line;
 
-/* The answer of the field call: the field is line[start] to line[start + length - 1]. */
+/* The answer of the field call: the field is the `length` bytes from line[start] on; an empty field has length 0. */
 typedef struct {
     uint64_t number;
     uint64_t start;
@@ -189,7 +193,7 @@ typedef struct {
     uint64_t tariff;
     uint64_t rows;        /* 1: P lines taken */
     uint64_t figures;     /* 1: H lines taken */
-    iolwarch_month month; /* 2 */
+    iolwarch_month month; /* 2: the open month */
     uint64_t number;      /* 3: of the refusal */
 } iolwarch_file;
 
@@ -229,7 +233,7 @@ iolwarch_end iolwarch_open(iolwarch_month month,
  *          that this table gives it); P metered figures, which add up to the profile's figure for the period due; an
  *          allotment list of 4P figures; the ledger's lists.
  * Answers  0, the month with the next period due, Z, A and both tables, or 2 to 19, the month as it came and zeros.
- *          The questions are put in this order: 12, 2 to 4, 13, 5 to 11, 14 to 19.
+ *          The questions are put in this order: 12, 2 to 4, 13, 5 to 8 row by row, 9 to 11, 14 to 19.
  * Leaves   with 0 the hour's figures in the allotment list, four a plant, and the ledger with these, the nets and net x
  *          TEO added; otherwise all three lists as they were. Plants, profile and metered figures are only read.
  */
@@ -268,8 +272,8 @@ iolwarch_end iolwarch_close(iolwarch_month month);
  *
  * Takes    a month that is not blank; plants again, as many as the month has; the ledger's lists; at least 128P + 128
  *          bytes for the statement.
- * Answers  0, the month as it came and the statement's length, or 21, 2, 3, 13, 14, 5 to 8, 11, 19 or 22 (put in this
- *          order), the month as it came and 0.
+ * Answers  0, the month as it came and the statement's length, or 21, 2, 3, 13, 14, 5 to 8 row by row, 11, 19 or 22 (put
+ *          in this order), the month as it came and 0.
  * Leaves   with 0 the statement at the front of the bytes and the rest of them as they were; otherwise all of them as
  *          they were. Plants and ledger are only read.
  */
@@ -339,8 +343,9 @@ iolwarch_file iolwarch_file_begin(void);
  *
  * Takes    the state that begin or the last feed answered, the part, and the lists as they were left.
  * Answers  0 and the next state; or 30, a list is too short; or 31, state and lists do not fit together; the state is
- *          then as it came. A file that is refused is fed with 0: finish writes its refusal, and no part after it
- *          matters. A state that begin made and only feeds have changed is never met by 31.
+ *          then as it came. A file that is refused is still fed, and 0 answered: finish writes its refusal, and no
+ *          part after it matters. 31 is never answered where begin made the state and feeds alone have changed state and
+ *          lists.
  * Leaves   with 0 the lists as the next call needs them; what lies past the line, the rows and the figures in use has
  *          any content. Otherwise all of them as they were. The part is only read.
  */

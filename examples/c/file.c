@@ -5,8 +5,8 @@
  *   ./file < examples/month.mre
  *
  * It prints the statement, or `R,line,number` where the file is refused. All of it is the library's: the order of the
- * lines, every question and every figure. Where the input cannot be read or the output not written it says so on
- * standard error, and the exit status is 1. */
+ * lines, every question and every figure. The exit status is 0 with either. Where the input cannot be read or the
+ * output not written it says so on standard error, and the exit status is 1. */
 #include <stdio.h>
 
 #include "iolwarch.h"

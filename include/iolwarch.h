@@ -39,6 +39,9 @@ extern "C" {
 /* The stack that a call needs, in bytes. */
 #define IOLWARCH_STACK 98304
 
+/* The places that a month file's plant table needs: 512 for each of its five columns. */
+#define IOLWARCH_COLUMNS 2560
+
 /* The numbers, from the questions of document 01. Each line says what must hold; where it does not, its number is
  * answered. P is the number of plants, H the number of periods, TEO the tariff. 5 to 8 are put row by row: all four of
  * a row before the first of the next.
@@ -316,13 +319,14 @@ iolwarch_place iolwarch_field(const uint8_t *line, size_t line_length, uint64_t 
  * in between. Any content will do at the start. iolwarch_workspace, below, has them all.
  *
  *     line                         8,192 bytes   the line that has begun
- *     figures                        513         the figures of a line, in one call
- *     submarket .. availability      512 each    the columns of the plant table
+ *     columns                      2,560         the plant table
  *     profile                        744         the profile
- *     allotment                    2,048         an hour's allotment, in one call
  *     allotted                     2,048         the ledger
  *     accounts                     1,024
  *     text                        65,664 bytes   for finish: the statement, or the refusal
+ *
+ * The plant table lies in IOLWARCH_COLUMNS figures, column by column in the order of a P line (submarket, number,
+ * guarantee, loss, availability): 512 places for each column, of which the rows that were read take the first.
  *
  * Longer lists will do; only so much of them is used. Each call looks over the table and the ledger that are kept, so
  * few long parts are cheaper than many short ones. */
@@ -342,21 +346,14 @@ iolwarch_file iolwarch_file_begin(void);
  *          then as it came. A file that is refused is still fed, and 0 answered: finish writes its refusal, and no
  *          part after it matters. 31 is never answered where begin made the state and feeds alone have changed state and
  *          lists.
- * Leaves   with 0 the lists as the next call needs them; what none needs has any content (figures, allotment, and in
- *          the others what lies past the line, the rows and the figures in use). Otherwise all of them as they were. The
- *          part is only read.
+ * Leaves   with 0 the lists as the next call needs them; what lies past the line, the rows and the figures in use has
+ *          any content. Otherwise all of them as they were. The part is only read.
  */
 iolwarch_fed iolwarch_file_feed(iolwarch_file file,
                                 const uint8_t *part, size_t part_length,
                                 uint8_t *line, size_t line_length,
-                                uint64_t *figures, size_t figures_length,
-                                uint64_t *submarket, size_t submarket_length,
-                                uint64_t *number, size_t number_length,
-                                uint64_t *guarantee, size_t guarantee_length,
-                                uint64_t *loss, size_t loss_length,
-                                uint64_t *availability, size_t availability_length,
+                                uint64_t *columns, size_t columns_length,
                                 uint64_t *profile, size_t profile_length,
-                                uint64_t *allotment, size_t allotment_length,
                                 uint64_t *allotted, size_t allotted_length,
                                 int64_t *accounts, size_t accounts_length);
 
@@ -365,34 +362,23 @@ iolwarch_fed iolwarch_file_feed(iolwarch_file file,
  * Takes    the state that the last feed answered, the lists as it left them, and at least 65,664 bytes for the text.
  * Answers  0 and how many bytes were written; or 30, a list is too short, 22, the text is, or 31, as for feed (put in
  *          this order), and 0.
- * Leaves   with 0 what is printed at the front of the text and the rest of it as it was; figures has any content.
- *          Otherwise both as they were. The other lists are only read.
+ * Leaves   with 0 what is printed at the front of the text and the rest of it as it was; otherwise the whole text as it
+ *          was. The other lists are only read.
  */
 iolwarch_finished iolwarch_file_finish(iolwarch_file file,
                                        const uint8_t *line, size_t line_length,
-                                       uint64_t *figures, size_t figures_length,
-                                       const uint64_t *submarket, size_t submarket_length,
-                                       const uint64_t *number, size_t number_length,
-                                       const uint64_t *guarantee, size_t guarantee_length,
-                                       const uint64_t *loss, size_t loss_length,
-                                       const uint64_t *availability, size_t availability_length,
+                                       const uint64_t *columns, size_t columns_length,
                                        const uint64_t *profile, size_t profile_length,
                                        const uint64_t *allotted, size_t allotted_length,
                                        const int64_t *accounts, size_t accounts_length,
                                        uint8_t *text, size_t text_length);
 
-/* Everything that a month file needs, for a month at the limits and so for any: 145,464 bytes, so make it static. */
+/* Everything that a month file needs, for a month at the limits and so for any: 124,976 bytes, so make it static. */
 typedef struct {
     iolwarch_file file;
     uint8_t line[8192];
-    uint64_t figures[513];
-    uint64_t submarket[512];
-    uint64_t number[512];
-    uint64_t guarantee[512];
-    uint64_t loss[512];
-    uint64_t availability[512];
+    uint64_t columns[IOLWARCH_COLUMNS];
     uint64_t profile[744];
-    uint64_t allotment[4 * 512];
     uint64_t allotted[4 * 512];
     int64_t accounts[2 * 512];
     uint8_t text[128 * 512 + 128];
@@ -407,10 +393,8 @@ static inline void iolwarch_workspace_begin(iolwarch_workspace *w)
 /* The next part. Answers the feed's number. */
 static inline uint64_t iolwarch_workspace_feed(iolwarch_workspace *w, const uint8_t *part, size_t length)
 {
-    iolwarch_fed fed = iolwarch_file_feed(
-        w->file, part, length, w->line, sizeof w->line, w->figures, 513, w->submarket, 512, w->number, 512,
-        w->guarantee, 512, w->loss, 512, w->availability, 512, w->profile, 744, w->allotment, 4 * 512, w->allotted,
-        4 * 512, w->accounts, 2 * 512);
+    iolwarch_fed fed = iolwarch_file_feed(w->file, part, length, w->line, sizeof w->line, w->columns, IOLWARCH_COLUMNS,
+                                          w->profile, 744, w->allotted, 4 * 512, w->accounts, 2 * 512);
     w->file = fed.file;
     return fed.number;
 }
@@ -418,9 +402,8 @@ static inline uint64_t iolwarch_workspace_feed(iolwarch_workspace *w, const uint
 /* After the last part: answers the finish's number and how many bytes of w->text are the file's output. */
 static inline iolwarch_finished iolwarch_workspace_finish(iolwarch_workspace *w)
 {
-    return iolwarch_file_finish(w->file, w->line, sizeof w->line, w->figures, 513, w->submarket, 512, w->number, 512,
-                                w->guarantee, 512, w->loss, 512, w->availability, 512, w->profile, 744, w->allotted,
-                                4 * 512, w->accounts, 2 * 512, w->text, sizeof w->text);
+    return iolwarch_file_finish(w->file, w->line, sizeof w->line, w->columns, IOLWARCH_COLUMNS, w->profile, 744,
+                                w->allotted, 4 * 512, w->accounts, 2 * 512, w->text, sizeof w->text);
 }
 
 /* Shares a total over weights: the i-th part is floor(total x Ci / W) - floor(total x C(i-1) / W), where Ci is the sum

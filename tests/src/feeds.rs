@@ -14,12 +14,11 @@ const SEED: u64 = 26_31;
 const FILES: u64 = 8;
 const LONG: usize = 200_000;
 
-/// The lengths that include/iolwarch.h asks for: figures, the table's five columns, profile, allotment, allotted, three
-/// of them by their place; and those of the other lists.
-const FIGURES: [usize; 9] = [513, 512, 512, 512, 512, 512, 744, 4 * 512, 4 * 512];
-const SUBMARKET: usize = 1;
-const ALLOTMENT: usize = 7;
-const ALLOTTED: usize = 8;
+/// The lengths that include/iolwarch.h asks for: the table's columns, profile, allotted, two of them by their place; and
+/// those of the other lists.
+const FIGURES: [usize; 3] = [5 * 512, 744, 4 * 512];
+const COLUMNS: usize = 0;
+const ALLOTTED: usize = 2;
 const LINE: usize = 8192;
 const ACCOUNTS: usize = 2 * 512;
 const TEXT: usize = 128 * 512 + 128;
@@ -50,7 +49,7 @@ pub fn run(count: &mut Count) {
 #[derive(Clone, PartialEq)]
 struct Lists {
     line: Lent<u8>,
-    figures: [Lent<u64>; 9],
+    figures: [Lent<u64>; 3],
     accounts: Lent<i64>,
     text: Lent<u8>,
 }
@@ -68,25 +67,16 @@ impl Lists {
         }
     }
 
-    #[rustfmt::skip]
     fn feed(&mut self, file: File, part: &[u8]) -> Fed {
-        let [figures, submarket, number, guarantee, loss, availability, profile, allotment, allotted] =
-            self.figures.each_mut().map(Lent::list);
+        let [columns, profile, allotted] = self.figures.each_mut().map(Lent::list);
         let (line, accounts) = (self.line.list(), self.accounts.list());
-        recorder::feed(
-            file, part, line, figures, submarket, number, guarantee, loss, availability, profile, allotment, allotted,
-            accounts,
-        )
+        recorder::feed(file, part, line, columns, profile, allotted, accounts)
     }
 
-    #[rustfmt::skip]
     fn finish(&mut self, file: File) -> Finished {
-        let [figures, submarket, number, guarantee, loss, availability, profile, _, allotted] =
-            self.figures.each_mut().map(Lent::list);
+        let [columns, profile, allotted] = self.figures.each_mut().map(Lent::list);
         let (line, accounts, text) = (self.line.list(), self.accounts.list(), self.text.list());
-        recorder::finish(
-            file, line, figures, submarket, number, guarantee, loss, availability, profile, allotted, accounts, text,
-        )
+        recorder::finish(file, line, columns, profile, allotted, accounts, text)
     }
 
     /// As they are in memory: the compiler may believe that a call does not write to a list lent for reading.
@@ -123,12 +113,10 @@ fn whole(count: &mut Count, random: &mut Random, kind: &str, seed: u64) {
     let printed = fed(count, random, &mut lists, &bytes, longest).and_then(|file| {
         let mut kept = lists.clone();
         let answer = lists.finish(file);
-        // What it writes: the text, and figures of any content.
+        // What it writes: the text.
         let end = (answer.length as usize).min(TEXT);
         let text = lists.text.list()[..end].to_vec();
         kept.text.list()[..end].copy_from_slice(&text);
-        let figures = lists.figures[0].list().to_vec();
-        kept.figures[0].list().copy_from_slice(&figures);
         match answer.number == 0 && answer.length as usize == end && lists.are(&kept) {
             true => String::from_utf8(text).map_err(|_| "not plain text".to_string()),
             false => Err(format!("finish of {:?} answered {:?}", file, answer)),
@@ -183,8 +171,7 @@ fn refused(count: &mut Count, random: &mut Random, file: File, lists: &Lists) {
     for (i, length) in FIGURES.into_iter().enumerate() {
         let mut short = lists.clone();
         short.figures[i].shorten(random.pick(&[0, length - 1]));
-        // Finish has no allotment.
-        refuses(count, &format!("list {} too short", i), file, &short, 30, if i == ALLOTMENT { 0 } else { 30 });
+        refuses(count, &format!("list {} too short", i), file, &short, 30, 30);
     }
     for unknown in unknown_states(file) {
         refuses(count, "state unknown", unknown, lists, 31, 31);
@@ -192,7 +179,7 @@ fn refused(count: &mut Count, random: &mut Random, file: File, lists: &Lists) {
     }
     if file.stage == 2 {
         let mut other = [lists.clone(), lists.clone(), lists.clone()];
-        other[0].figures[SUBMARKET].list()[0] = 5;
+        other[0].figures[COLUMNS].list()[0] = 5;
         other[1].figures[ALLOTTED].list()[0] = u64::MAX;
         other[2].accounts.list()[0] = i64::MIN;
         for lists in other {

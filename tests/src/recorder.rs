@@ -241,17 +241,15 @@ call! {
 call! {
     /// Feeds the next part of a month file.
     feed = iolwarch_file_feed(
-        file: File, part: &[u8], line: &mut [u8], figures: &mut [u64],
-        submarket: &mut [u64], number: &mut [u64], guarantee: &mut [u64], loss: &mut [u64], availability: &mut [u64],
-        profile: &mut [u64], allotment: &mut [u64], allotted: &mut [u64], accounts: &mut [i64],
+        file: File, part: &[u8], line: &mut [u8], columns: &mut [u64], profile: &mut [u64], allotted: &mut [u64],
+        accounts: &mut [i64],
     ) -> Fed
 }
 
 call! {
     /// Ends a month file: its statement or its refusal goes to the front of `text`.
     finish = iolwarch_file_finish(
-        file: File, line: &[u8], figures: &mut [u64],
-        submarket: &[u64], number: &[u64], guarantee: &[u64], loss: &[u64], availability: &[u64],
-        profile: &[u64], allotted: &[u64], accounts: &[i64], text: &mut [u8],
+        file: File, line: &[u8], columns: &[u64], profile: &[u64], allotted: &[u64], accounts: &[i64],
+        text: &mut [u8],
     ) -> Finished
 }

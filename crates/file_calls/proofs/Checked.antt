@@ -7,6 +7,7 @@ use native.Mathlib.Omega.{arith}
 use borrow.Author.Tests.{eqb-true, eqb-false}
 use lib.Dec.{eqb}
 use lib.ListN.{length}
+use Rattle.records.specs.Records.{rowsOf}
 use Rattle.ledger.specs.Ledger.{inBounds}
 use Rattle.questions.specs.Questions.{rowsNumber}
 use Rattle.statement.specs.Writing.{Fills}
@@ -15,7 +16,7 @@ use Rattle.file_calls.specs.declared.FeedAnswer.{FeedAnswer}
 use Rattle.file_calls.specs.declared.FinishAnswer.{FinishAnswer}
 use Rattle.file_lines.specs.File.{settledFile}
 use Rattle.month_file.specs.Bytes.{finished}
-use Rattle.file_lines.specs.State.{Kept, rowsOf, ledgerOf, Lent, Gathering, Settling, Valid}
+use Rattle.file_lines.specs.State.{Kept, ledgerOf, Lent, Gathering, Settling, Valid}
 use Rattle.month_file.specs.Machine.{readingOf, Fresh, Fed}
 use Rattle.month_file.specs.Run.{Place, Feeds}
 use Rattle.month_file.specs.Run as run
@@ -55,7 +56,7 @@ granted false d e = absurd (false≢true (sym e))
 pub settling-counted : {f : MonthFile} {k : Kept} → Settling f k → Counted (f .month) (f .count)
 settling-counted s = record { plants = s .plants; periods = s .periods; due = s .due; counted = s .counted }
 
-pub settling-yes : {f : MonthFile} {k : Kept} → Counted (f .month) (f .count) → rowsNumber 0 0 (rowsOf (f .month .plants) k) ≡ 0
+pub settling-yes : {f : MonthFile} {k : Kept} → Counted (f .month) (f .count) → rowsNumber 0 0 (rowsOf (f .month .plants) (k .columns)) ≡ 0
     → inBounds (ledgerOf (f .month .plants) k) ≡ true → Settling f k
 settling-yes c r b = record { plants = c .plants; periods = c .periods; due = c .due; counted = c .counted; rows = r; bounded = b }
 

@@ -28,18 +28,14 @@ pub record Counted (m : Month) (count : ℕ) : Type 0 where
 
 -- ---- feed
 
--- all lists that `feed` is lent: what was read, the line that has begun, its figures, an hour's allotment
+-- all lists that `feed` is lent: what was read, and the line that has begun
 pub record FeedLists : Type 0 where
   pub held : Kept
   pub line : List ℕ
-  pub figures : List ℕ
-  pub allotment : List ℕ
 
 -- they are long enough for every month
 pub record FeedRoom (l : FeedLists) : Type 0 where
   pub bytes : 8192 ≤ length (l .line)
-  pub places : 513 ≤ length (l .figures)
-  pub fours : 4 * 512 ≤ length (l .allotment)
   pub lent : Lent (l .held)
 
 -- 30: are the lists long enough? 31: do state and lists fit together, as after every feed?
@@ -60,12 +56,10 @@ pub record FedAny (f : MonthFile) (part : List ℕ) (l : FeedLists) (r : FeedAns
 pub record FinishLists : Type 0 where
   pub held : Kept
   pub line : List ℕ
-  pub figures : List ℕ
   pub text : List ℕ
 
 pub record FinishRoom (l : FinishLists) : Type 0 where
   pub bytes : 8192 ≤ length (l .line)
-  pub places : 513 ≤ length (l .figures)
   pub lent : Lent (l .held)
 
 -- 30, then 22: are 65,664 bytes lent for the text? then 31

@@ -8,31 +8,10 @@ ghost use Rattle.file_lines.specs.State.{kept, Lent, Gathering, Settling, Valid
 ghost use Rattle.file_calls.specs.Checking.{Decides, Counted, FeedNumber, FedAny, FinishNumber, FinishedAny};
 
 // Are the lists of what was read long enough for every month?
-fn are_lent(
-    submarket: &[u64],
-    number: &[u64],
-    guarantee: &[u64],
-    loss: &[u64],
-    availability: &[u64],
-    profile: &[u64],
-    allotted: &[u64],
-    accounts: &[i64],
-) -> bool
-    ensures { λ r. ⌜ Decides (Lent (kept (now (submarket .entry)) (now (number .entry)) (now (guarantee .entry)) (now (loss .entry)) (now (availability .entry)) (now (profile .entry)) (now (allotted .entry)) (now (accounts .entry)))) r ⌝ }
+fn are_lent(columns: &[u64], profile: &[u64], allotted: &[u64], accounts: &[i64]) -> bool
+    ensures { λ r. ⌜ Decides (Lent (kept (now (columns .entry)) (now (profile .entry)) (now (allotted .entry)) (now (accounts .entry)))) r ⌝ }
 {
-    if submarket.len() < 512 {
-        return false;
-    }
-    if number.len() < 512 {
-        return false;
-    }
-    if guarantee.len() < 512 {
-        return false;
-    }
-    if loss.len() < 512 {
-        return false;
-    }
-    if availability.len() < 512 {
+    if columns.len() < 2560 {
         return false;
     }
     if profile.len() < 744 {
@@ -91,30 +70,20 @@ fn is_counted(month: Month, count: u64) -> bool
 // ... 5 to 8 passed by the table, and the ledger in its bounds?
 fn is_settling(
     file: MonthFile,
-    submarket: &[u64],
-    number: &[u64],
-    guarantee: &[u64],
-    loss: &[u64],
-    availability: &[u64],
+    columns: &[u64],
     profile: &[u64],
     allotted: &[u64],
     accounts: &[i64],
 ) -> bool
-    requires { ⌜ Lent (kept (now submarket) (now number) (now guarantee) (now loss) (now availability) (now profile) (now allotted) (now accounts)) ⌝ }
-    ensures { λ r. ⌜ Decides (Settling file (kept (now (submarket .entry)) (now (number .entry)) (now (guarantee .entry)) (now (loss .entry)) (now (availability .entry)) (now (profile .entry)) (now (allotted .entry)) (now (accounts .entry)))) r ⌝ }
+    requires { ⌜ Lent (kept (now columns) (now profile) (now allotted) (now accounts)) ⌝ }
+    ensures { λ r. ⌜ Decides (Settling file (kept (now (columns .entry)) (now (profile .entry)) (now (allotted .entry)) (now (accounts .entry)))) r ⌝ }
 {
     let month = file.month;
     if !is_counted(month, file.count) {
         return false;
     }
     let rows = month.plants as usize;
-    let no = rows_number(
-        &submarket[..rows],
-        &number[..rows],
-        &guarantee[..rows],
-        &loss[..rows],
-        &availability[..rows],
-    );
+    let no = rows_number(rows, columns);
     if no != 0 {
         return false;
     }
@@ -126,17 +95,13 @@ fn is_settling(
 // Do state and lists fit together, as after `fresh` and every feed?
 fn is_valid(
     file: MonthFile,
-    submarket: &[u64],
-    number: &[u64],
-    guarantee: &[u64],
-    loss: &[u64],
-    availability: &[u64],
+    columns: &[u64],
     profile: &[u64],
     allotted: &[u64],
     accounts: &[i64],
 ) -> bool
-    requires { ⌜ Lent (kept (now submarket) (now number) (now guarantee) (now loss) (now availability) (now profile) (now allotted) (now accounts)) ⌝ }
-    ensures { λ r. ⌜ Decides (Valid file (kept (now (submarket .entry)) (now (number .entry)) (now (guarantee .entry)) (now (loss .entry)) (now (availability .entry)) (now (profile .entry)) (now (allotted .entry)) (now (accounts .entry)))) r ⌝ }
+    requires { ⌜ Lent (kept (now columns) (now profile) (now allotted) (now accounts)) ⌝ }
+    ensures { λ r. ⌜ Decides (Valid file (kept (now (columns .entry)) (now (profile .entry)) (now (allotted .entry)) (now (accounts .entry)))) r ⌝ }
 {
     if 8192 < file.length {
         return false;
@@ -148,17 +113,7 @@ fn is_valid(
         return is_gathering(file);
     }
     if file.stage == 2 {
-        return is_settling(
-            file,
-            submarket,
-            number,
-            guarantee,
-            loss,
-            availability,
-            profile,
-            allotted,
-            accounts,
-        );
+        return is_settling(file, columns, profile, allotted, accounts);
     }
     true
 }
@@ -167,51 +122,20 @@ fn is_valid(
 fn feed_number(
     file: MonthFile,
     line: &[u8],
-    figures: &[u64],
-    submarket: &[u64],
-    number: &[u64],
-    guarantee: &[u64],
-    loss: &[u64],
-    availability: &[u64],
+    columns: &[u64],
     profile: &[u64],
-    allotment: &[u64],
     allotted: &[u64],
     accounts: &[i64],
 ) -> u64
-    ensures { λ r. ⌜ FeedNumber file (record { held = kept (now (submarket .entry)) (now (number .entry)) (now (guarantee .entry)) (now (loss .entry)) (now (availability .entry)) (now (profile .entry)) (now (allotted .entry)) (now (accounts .entry)); line = now (line .entry); figures = now (figures .entry); allotment = now (allotment .entry) }) r ⌝ }
+    ensures { λ r. ⌜ FeedNumber file (record { held = kept (now (columns .entry)) (now (profile .entry)) (now (allotted .entry)) (now (accounts .entry)); line = now (line .entry) }) r ⌝ }
 {
     if line.len() < 8192 {
         return 30;
     }
-    if figures.len() < 513 {
+    if !are_lent(columns, profile, allotted, accounts) {
         return 30;
     }
-    if allotment.len() < 4 * 512 {
-        return 30;
-    }
-    if !are_lent(
-        submarket,
-        number,
-        guarantee,
-        loss,
-        availability,
-        profile,
-        allotted,
-        accounts,
-    ) {
-        return 30;
-    }
-    if !is_valid(
-        file,
-        submarket,
-        number,
-        guarantee,
-        loss,
-        availability,
-        profile,
-        allotted,
-        accounts,
-    ) {
+    if !is_valid(file, columns, profile, allotted, accounts) {
         return 31;
     }
     0
@@ -228,51 +152,18 @@ pub fn feed_any(
     file: MonthFile,
     part: &[u8],
     line: &mut [u8],
-    figures: &mut [u64],
-    submarket: &mut [u64],
-    number: &mut [u64],
-    guarantee: &mut [u64],
-    loss: &mut [u64],
-    availability: &mut [u64],
+    columns: &mut [u64],
     profile: &mut [u64],
-    allotment: &mut [u64],
     allotted: &mut [u64],
     accounts: &mut [i64],
 ) -> FeedAnswer
-    ensures { λ r. ⌜ FedAny file (now (part .entry)) (record { held = kept (now (submarket .entry)) (now (number .entry)) (now (guarantee .entry)) (now (loss .entry)) (now (availability .entry)) (now (profile .entry)) (now (allotted .entry)) (now (accounts .entry)); line = now (line .entry); figures = now (figures .entry); allotment = now (allotment .entry) }) r (record { held = kept (now (submarket .exit)) (now (number .exit)) (now (guarantee .exit)) (now (loss .exit)) (now (availability .exit)) (now (profile .exit)) (now (allotted .exit)) (now (accounts .exit)); line = now (line .exit); figures = now (figures .exit); allotment = now (allotment .exit) }) ⌝ }
+    ensures { λ r. ⌜ FedAny file (now (part .entry)) (record { held = kept (now (columns .entry)) (now (profile .entry)) (now (allotted .entry)) (now (accounts .entry)); line = now (line .entry) }) r (record { held = kept (now (columns .exit)) (now (profile .exit)) (now (allotted .exit)) (now (accounts .exit)); line = now (line .exit) }) ⌝ }
 {
-    let no = feed_number(
-        file,
-        line,
-        figures,
-        submarket,
-        number,
-        guarantee,
-        loss,
-        availability,
-        profile,
-        allotment,
-        allotted,
-        accounts,
-    );
+    let no = feed_number(file, line, columns, profile, allotted, accounts);
     if no != 0 {
         return FeedAnswer { number: no, file };
     }
-    let fed = feed(
-        file,
-        part,
-        line,
-        &mut figures[..513],
-        submarket,
-        number,
-        guarantee,
-        loss,
-        availability,
-        profile,
-        allotment,
-        allotted,
-        accounts,
-    );
+    let fed = feed(file, part, line, columns, profile, allotted, accounts);
     FeedAnswer {
         number: 0,
         file: fed,
@@ -283,51 +174,24 @@ pub fn feed_any(
 fn finish_number(
     file: MonthFile,
     line: &[u8],
-    figures: &[u64],
-    submarket: &[u64],
-    number: &[u64],
-    guarantee: &[u64],
-    loss: &[u64],
-    availability: &[u64],
+    columns: &[u64],
     profile: &[u64],
     allotted: &[u64],
     accounts: &[i64],
     text: &[u8],
 ) -> u64
-    ensures { λ r. ⌜ FinishNumber file (record { held = kept (now (submarket .entry)) (now (number .entry)) (now (guarantee .entry)) (now (loss .entry)) (now (availability .entry)) (now (profile .entry)) (now (allotted .entry)) (now (accounts .entry)); line = now (line .entry); figures = now (figures .entry); text = now (text .entry) }) r ⌝ }
+    ensures { λ r. ⌜ FinishNumber file (record { held = kept (now (columns .entry)) (now (profile .entry)) (now (allotted .entry)) (now (accounts .entry)); line = now (line .entry); text = now (text .entry) }) r ⌝ }
 {
     if line.len() < 8192 {
         return 30;
     }
-    if figures.len() < 513 {
-        return 30;
-    }
-    if !are_lent(
-        submarket,
-        number,
-        guarantee,
-        loss,
-        availability,
-        profile,
-        allotted,
-        accounts,
-    ) {
+    if !are_lent(columns, profile, allotted, accounts) {
         return 30;
     }
     if text.len() < 128 * 512 + 128 {
         return 22;
     }
-    if !is_valid(
-        file,
-        submarket,
-        number,
-        guarantee,
-        loss,
-        availability,
-        profile,
-        allotted,
-        accounts,
-    ) {
+    if !is_valid(file, columns, profile, allotted, accounts) {
         return 31;
     }
     0
@@ -343,52 +207,21 @@ pub struct FinishAnswer {
 pub fn finish_any(
     file: MonthFile,
     line: &[u8],
-    figures: &mut [u64],
-    submarket: &[u64],
-    number: &[u64],
-    guarantee: &[u64],
-    loss: &[u64],
-    availability: &[u64],
+    columns: &[u64],
     profile: &[u64],
     allotted: &[u64],
     accounts: &[i64],
     text: &mut [u8],
 ) -> FinishAnswer
-    ensures { λ r. ⌜ FinishedAny file (record { held = kept (now (submarket .entry)) (now (number .entry)) (now (guarantee .entry)) (now (loss .entry)) (now (availability .entry)) (now (profile .entry)) (now (allotted .entry)) (now (accounts .entry)); line = now (line .entry); figures = now (figures .entry); text = now (text .entry) }) r (record { held = kept (now (submarket .entry)) (now (number .entry)) (now (guarantee .entry)) (now (loss .entry)) (now (availability .entry)) (now (profile .entry)) (now (allotted .entry)) (now (accounts .entry)); line = now (line .entry); figures = now (figures .exit); text = now (text .exit) }) ⌝ }
+    ensures { λ r. ⌜ FinishedAny file (record { held = kept (now (columns .entry)) (now (profile .entry)) (now (allotted .entry)) (now (accounts .entry)); line = now (line .entry); text = now (text .entry) }) r (record { held = kept (now (columns .entry)) (now (profile .entry)) (now (allotted .entry)) (now (accounts .entry)); line = now (line .entry); text = now (text .exit) }) ⌝ }
 {
-    let no = finish_number(
-        file,
-        line,
-        figures,
-        submarket,
-        number,
-        guarantee,
-        loss,
-        availability,
-        profile,
-        allotted,
-        accounts,
-        text,
-    );
+    let no = finish_number(file, line, columns, profile, allotted, accounts, text);
     if no != 0 {
         return FinishAnswer {
             number: no,
             length: 0,
         };
     }
-    let length = finish(
-        file,
-        line,
-        &mut figures[..513],
-        submarket,
-        number,
-        guarantee,
-        loss,
-        availability,
-        profile,
-        allotted,
-        accounts,
-        text,
-    );
+    let length = finish(file, line, columns, profile, allotted, accounts, text);
     FinishAnswer { number: 0, length }
 }

@@ -10,76 +10,55 @@ use lib.Dec.{eqb}
 use lib.ListN.{length, take, set, getD, length-set, length-append}
 use lib.Seq.{take-suc-set, length-take-le}
 use Rattle.hour.specs.declared.Plant.{Plant}
+use Rattle.records.specs.Records.{rowsOf, putRow}
+use Rattle.records.proofs.Copied.{length-putRow}
+use Rattle.records.proofs.Figures.{length-rows, rows-put}
 use Rattle.file_lines.specs.declared.MonthFile.{MonthFile}
 use Rattle.file_lines.specs.File.{Progress, Sizes, gathers, plantOf, opened, taken}
-use Rattle.file_lines.specs.State.{Kept, kept, rowsOf, progressOf, Lent, Gathering, Valid, Moved, RowStored, atStage, Openable, openedOf}
-use Rattle.file_lines.proofs.Rows.{rows-more, length-rows, equal-rows}
+use Rattle.file_lines.specs.State.{Kept, kept, progressOf, Lent, Gathering, Valid, Moved, atStage, Openable, openedOf}
 use Rattle.file_lines.proofs.Moves.{gathered, moved-as}
 
 abbrev pub sizesOf : MonthFile → Sizes
 sizesOf f = record { periods = f .periods; plants = f .plants; tariff = f .tariff }
 
-pub gathers-is : (f : MonthFile) (k : Kept) → f .stage ≡ 1 → progressOf f k ≡ gathers (sizesOf f) (rowsOf (f .rows) k) (take (f .figures) (k .profile))
+pub gathers-is : (f : MonthFile) (k : Kept) → f .stage ≡ 1 → progressOf f k ≡ gathers (sizesOf f) (rowsOf (f .rows) (k .columns)) (take (f .figures) (k .profile))
 unfolding progressOf
 gathers-is f k e = rw e
 
 -- the lists with other columns; with another profile
-abbrev pub withColumns : Kept → List ℕ → List ℕ → List ℕ → List ℕ → List ℕ → Kept
-withColumns k ss ns gs ls vs = kept ss ns gs ls vs (k .profile) (k .allotted) (k .accounts)
+abbrev pub withColumns : Kept → List ℕ → Kept
+withColumns k columns = kept columns (k .profile) (k .allotted) (k .accounts)
 
 abbrev pub withProfile : Kept → List ℕ → Kept
-withProfile k profile = kept (k .submarket) (k .number) (k .guarantee) (k .loss) (k .availability) profile (k .allotted) (k .accounts)
+withProfile k profile = kept (k .columns) profile (k .allotted) (k .accounts)
 
 module _ (f : MonthFile) (k : Kept) (stage : f .stage ≡ 1) (v : Valid f k) where
   g : Gathering f
   g = v .gathering stage
 
-  low : f .rows ≤ 512
-  low = omega (arith, g .rows, g .plants)
-
   -- ---- a P line
 
-  module _ (ss ns gs ls vs figures : List ℕ)
-      (s : RowStored (f .rows) figures (k .submarket) ss (k .number) ns (k .guarantee) gs (k .loss) ls (k .availability) vs) (h : f .rows < f .plants) where
+  module _ (columns figures : List ℕ) (s : columns ≡ putRow (k .columns) (f .rows) (plantOf figures)) (h : f .rows < f .plants) where
     abbrev after : Kept
-    after = withColumns k ss ns gs ls vs
-
-    long : (old new : List ℕ) (x : ℕ) → new ≡ set old (f .rows) x → 512 ≤ length old → 512 ≤ length new
-    long old new x e m = omega (arith, ap length e, length-set old (f .rows) x)
+    after = withColumns k columns
 
     lent : Lent after
     lent =
         record {
-          submarket = long (k .submarket) ss (getD figures 0 0) (s .submarket) (v .lent .submarket);
-          number = long (k .number) ns (getD figures 1 0) (s .number) (v .lent .number);
-          guarantee = long (k .guarantee) gs (getD figures 2 0) (s .guarantee) (v .lent .guarantee);
-          loss = long (k .loss) ls (getD figures 3 0) (s .loss) (v .lent .loss);
-          availability = long (k .availability) vs (getD figures 4 0) (s .availability) (v .lent .availability);
+          columns = omega (arith, v .lent .columns, ap length s, length-putRow (k .columns) (f .rows) (plantOf figures));
           profile = v .lent .profile;
           allotted = v .lent .allotted;
           accounts = v .lent .accounts;
         }
 
-    one-more : (old new : List ℕ) (x : ℕ) → new ≡ set old (f .rows) x → 512 ≤ length old → take (f .rows + 1) new ≡ take (f .rows) old ++ (x ∷ [])
-    one-more old new x e m = rw (e, add-one) (take-suc-set old (f .rows) x (omega (arith, h, g .plants)))
+    rows-after : rowsOf (f .rows + 1) columns ≡ rowsOf (f .rows) (k .columns) ++ (plantOf figures ∷ [])
+    rows-after = ap (rowsOf (f .rows + 1)) s ∙ rows-put (f .rows) (k .columns) (plantOf figures) (omega (arith, h, g .plants)) (v .lent .columns)
 
-    rows-after : rowsOf (f .rows + 1) after ≡ rowsOf (f .rows) k ++ (plantOf figures ∷ [])
-    unfolding rowsOf plantOf
-    rows-after =
-        rw (
-          one-more (k .submarket) ss (getD figures 0 0) (s .submarket) (v .lent .submarket),
-          one-more (k .number) ns (getD figures 1 0) (s .number) (v .lent .number),
-          one-more (k .guarantee) gs (getD figures 2 0) (s .guarantee) (v .lent .guarantee),
-          one-more (k .loss) ls (getD figures 3 0) (s .loss) (v .lent .loss),
-          one-more (k .availability) vs (getD figures 4 0) (s .availability) (v .lent .availability),
-        )
-        (rows-more _ _ _ _ _ _ _ _ _ _ (equal-rows k (v .lent) (f .rows) low))
-
-    takes-row : taken (f .count + 1) (progressOf f k) figures ≡ gathers (sizesOf f) (rowsOf (f .rows) k ++ (plantOf figures ∷ [])) (take (f .figures) (k .profile))
+    takes-row : taken (f .count + 1) (progressOf f k) figures ≡ gathers (sizesOf f) (rowsOf (f .rows) (k .columns) ++ (plantOf figures ∷ [])) (take (f .figures) (k .profile))
     unfolding taken
-    takes-row = rw (gathers-is f k stage, length-rows k (v .lent) (f .rows) low, lt-ltb (f .rows) (f .plants) h)
+    takes-row = rw (gathers-is f k stage, length-rows (f .rows) (k .columns), lt-ltb (f .rows) (f .plants) h)
 
-    row-stands : Moved f (gathers (sizesOf f) (rowsOf (f .rows) k ++ (plantOf figures ∷ [])) (take (f .figures) (k .profile)))
+    row-stands : Moved f (gathers (sizesOf f) (rowsOf (f .rows) (k .columns) ++ (plantOf figures ∷ [])) (take (f .figures) (k .profile)))
         (gathered (atStage f 1) (f .periods) (f .plants) (f .tariff) (f .rows + 1) (f .figures)) after
     unfolding atStage progressOf
     row-stands =
@@ -120,11 +99,7 @@ module _ (f : MonthFile) (k : Kept) (stage : f .stage ≡ 1) (v : Valid f k) whe
     lent-longer : Lent longer
     lent-longer =
         record {
-          submarket = v .lent .submarket;
-          number = v .lent .number;
-          guarantee = v .lent .guarantee;
-          loss = v .lent .loss;
-          availability = v .lent .availability;
+          columns = v .lent .columns;
           profile = omega (arith, v .lent .profile, length-set (k .profile) (f .figures) kwh);
           allotted = v .lent .allotted;
           accounts = v .lent .accounts;
@@ -145,21 +120,21 @@ module _ (f : MonthFile) (k : Kept) (stage : f .stage ≡ 1) (v : Valid f k) whe
         ∙ ap (λ (n : ℕ). n + 1) (length-take-le (f .figures) (k .profile) (omega (arith, g .figures, g .periods, v .lent .profile)))
 
     abbrev due : Progress
-    due = cond (eqb (f .figures + 1) (f .periods)) (opened (f .count + 1) (sizesOf f) (rowsOf (f .rows) k) more) (gathers (sizesOf f) (rowsOf (f .rows) k) more)
+    due = cond (eqb (f .figures + 1) (f .periods)) (opened (f .count + 1) (sizesOf f) (rowsOf (f .rows) (k .columns)) more) (gathers (sizesOf f) (rowsOf (f .rows) (k .columns)) more)
 
     takes-figure : taken (f .count + 1) (progressOf f k) figures ≡ due
     unfolding taken
     takes-figure =
-        rw (gathers-is f k stage, length-rows k (v .lent) (f .rows) low, le-ltb (f .rows) (f .plants) h, length-more)
+        rw (gathers-is f k stage, length-rows (f .rows) (k .columns), le-ltb (f .rows) (f .plants) h, length-more)
 
     figure-stands : f .figures + 1 < f .periods
-        → Moved f (gathers (sizesOf f) (rowsOf (f .rows) k) more) (gathered (atStage f 1) (f .periods) (f .plants) (f .tariff) (f .rows) (f .figures + 1)) longer
-    unfolding atStage progressOf rowsOf
+        → Moved f (gathers (sizesOf f) (rowsOf (f .rows) (k .columns)) more) (gathered (atStage f 1) (f .periods) (f .plants) (f .tariff) (f .rows) (f .figures + 1)) longer
+    unfolding atStage progressOf
     figure-stands m =
         record {
           empty = refl;
           counted = refl;
-          stands = ap (gathers (sizesOf f) (rowsOf (f .rows) k)) profile-after;
+          stands = ap (gathers (sizesOf f) (rowsOf (f .rows) (k .columns))) profile-after;
           valid = record {
             lent = lent-longer;
             short = omega arith;
@@ -186,9 +161,9 @@ module _ (f : MonthFile) (k : Kept) (stage : f .stage ≡ 1) (v : Valid f k) whe
           record { lent = lent-longer; plants = g .plants; periods = g .periods; counted = omega (arith, g .counted, all-rows, last) }
 
       opens : openedOf f longer ≡ due
-      unfolding openedOf rowsOf
+      unfolding openedOf
       opens =
-          ap₂ (λ (n : ℕ) (p : List ℕ). opened (f .count + 1) (sizesOf f) (rowsOf n k) p) (sym all-rows)
+          ap₂ (λ (n : ℕ) (p : List ℕ). opened (f .count + 1) (sizesOf f) (rowsOf n (k .columns)) p) (sym all-rows)
           (ap (λ (n : ℕ). take n (longer .profile)) (sym last) ∙ profile-after)
           ∙ rw (eq-eqb (f .figures + 1) (f .periods) last)
 

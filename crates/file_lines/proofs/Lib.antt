@@ -1,6 +1,5 @@
 -- Laws of the month file's lines.
 pub mod Following
-pub mod Rows
 pub mod Moves
 pub mod Opened
 pub mod Gathered

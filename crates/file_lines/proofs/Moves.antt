@@ -6,14 +6,14 @@ use native.Mathlib.Omega.{arith}
 use lib.ListN.{length}
 use Rattle.lists.specs.Questions.{outcome}
 use Rattle.lists.proofs.Questions.{refuses, accepts}
-use Rattle.hour.specs.Table.{plantsOf}
+use Rattle.records.specs.Records.{rowsOf}
 use Rattle.month.specs.declared.Month.{Month}
 use Rattle.questions.specs.Questions.{sizesNumber}
 use Rattle.questions.proofs.Asked.{Sizes, sizes}
 use Rattle.file_lines.specs.declared.MonthFile.{MonthFile}
 use Rattle.file_lines.specs.File as file
 use Rattle.file_lines.specs.File.{Progress, gathers, begun, blank}
-use Rattle.file_lines.specs.State.{Kept, rowsOf, progressOf, Lent, Moved, atStart, atStage, atRefusal}
+use Rattle.file_lines.specs.State.{Kept, progressOf, Lent, Moved, atStart, atStage, atRefusal}
 
 -- before the first byte
 pub started : (m : Month) → m ≡ blank
@@ -86,7 +86,7 @@ module _ (f : MonthFile) (k : Kept) (lent : Lent k) where
   -- the first line
   begun-moved : (periods plants tariff : ℕ) → f .count ≡ 0 → Sizes plants periods tariff
       → Moved f (gathers (record { periods = periods; plants = plants; tariff = tariff }) [] []) (gathered (atStage f 1) periods plants tariff 0 0) k
-  unfolding atStage progressOf rowsOf plantsOf
+  unfolding atStage progressOf rowsOf
   begun-moved periods plants tariff none s =
       record {
         empty = refl;

@@ -9,6 +9,8 @@ use lib.Seq.{length-take-le, length-front, take-at}
 use Rattle.lists.specs.Questions.{outcome}
 use Rattle.lists.proofs.Questions.{accepted, outcome-part}
 use Rattle.hour.specs.declared.Plant.{Plant}
+use Rattle.records.specs.Records.{rowsOf}
+use Rattle.records.proofs.Figures.{length-rows}
 use Rattle.ledger.specs.Ledger.{Ledger, zeros, inBounds}
 use Rattle.ledger.proofs.Bounds.{zeros-in-bounds}
 use Rattle.month.specs.declared.Month.{Month}
@@ -21,8 +23,7 @@ use Rattle.month.proofs.Asked as asked
 use Rattle.file_lines.specs.declared.MonthFile.{MonthFile}
 use Rattle.file_lines.specs.File as file
 use Rattle.file_lines.specs.File.{settles, blank, opened}
-use Rattle.file_lines.specs.State.{Kept, kept, rowsOf, ledgerOf, progressOf, Lent, Moved, atStage, atRefusal, Openable, openedOf}
-use Rattle.file_lines.proofs.Rows.{length-rows}
+use Rattle.file_lines.specs.State.{Kept, kept, ledgerOf, progressOf, Lent, Moved, atStage, atRefusal, Openable, openedOf}
 use Rattle.file_lines.proofs.Moves.{moved-as, refuses-by}
 
 -- the front of a list that is lent has as many elements as were asked for
@@ -63,7 +64,7 @@ monthed f m =
 -- the lists with other ledger figures at their front
 abbrev pub withLedger : Kept → ℕ → List ℕ → List ℤ → Kept
 withLedger k p ys zs =
-    kept (k .submarket) (k .number) (k .guarantee) (k .loss) (k .availability) (k .profile) (ys ++ drop (4 * p) (k .allotted)) (zs ++ drop (2 * p) (k .accounts))
+    kept (k .columns) (k .profile) (ys ++ drop (4 * p) (k .allotted)) (zs ++ drop (2 * p) (k .accounts))
 
 module _ (k : Kept) (lent : Lent k) (p : ℕ) (few : p ≤ 512) (ys : List ℕ) (zs : List ℤ)
     (many : length ys ≡ length (take (4 * p) (k .allotted))) (more : length zs ≡ length (take (2 * p) (k .accounts))) where
@@ -76,11 +77,7 @@ module _ (k : Kept) (lent : Lent k) (p : ℕ) (few : p ≤ 512) (ys : List ℕ) 
   pub lent-after : Lent (withLedger k p ys zs)
   lent-after =
       record {
-        submarket = lent .submarket;
-        number = lent .number;
-        guarantee = lent .guarantee;
-        loss = lent .loss;
-        availability = lent .availability;
+        columns = lent .columns;
         profile = lent .profile;
         allotted = omega (arith, lent .allotted, length-front (k .allotted) ys (4 * p) many);
         accounts = omega (arith, lent .accounts, length-front (k .accounts) zs (2 * p) more);
@@ -92,10 +89,10 @@ module _ (k : Kept) (lent : Lent k) (p : ℕ) (few : p ≤ 512) (ys : List ℕ) 
 
 module _ (f : MonthFile) (k : Kept) (o : Openable f k) (end : Opened) (ys : List ℕ) (zs : List ℤ)
     (e : _≡_ {A = OpenEnd} (record { answer = end; ledger = record { allotted = ys; accounts = zs } })
-    (openCall blank (rowsOf (f .plants) k) (take (f .periods) (k .profile)) (f .tariff) (ledgerOf (f .plants) k)))
+    (openCall blank (rowsOf (f .plants) (k .columns)) (take (f .periods) (k .profile)) (f .tariff) (ledgerOf (f .plants) k)))
     (many : length ys ≡ length (take (4 * f .plants) (k .allotted))) (more : length zs ≡ length (take (2 * f .plants) (k .accounts))) where
   abbrev rows : List Plant
-  rows = rowsOf (f .plants) k
+  rows = rowsOf (f .plants) (k .columns)
 
   abbrev profile : List ℕ
   profile = take (f .periods) (k .profile)
@@ -107,7 +104,7 @@ module _ (f : MonthFile) (k : Kept) (o : Openable f k) (end : Opened) (ys : List
   fresh = openCall blank rows profile (f .tariff) (zeros (length rows))
 
   p-rows : length rows ≡ f .plants
-  p-rows = length-rows k (o .lent) (f .plants) (o .plants)
+  p-rows = length-rows (f .plants) (k .columns)
 
   h-figures : length profile ≡ f .periods
   h-figures = length-take-le (f .periods) (k .profile) (omega (arith, o .periods, o .lent .profile))
@@ -160,11 +157,11 @@ module _ (f : MonthFile) (k : Kept) (o : Openable f k) (end : Opened) (ys : List
     opens = ap (λ (r : OpenEnd). outcome (r .answer .number) (settles rows profile (r .answer .month) (r .ledger)) (file.refuses (f .count + 1))) (open-is _ (sym alike ∙ none))
 
     stands : progressOf (monthed (atStage f 2) month) after ≡ settles rows profile month (zeros (f .plants))
-    unfolding progressOf atStage rowsOf
+    unfolding progressOf atStage
     stands = ap (settles rows profile month) ledger-is
 
     opened-moved : Moved f (openedOf f k) (monthed (atStage f 2) month) after
-    unfolding atStage rowsOf
+    unfolding atStage
     opened-moved =
         record {
           empty = refl;

@@ -10,6 +10,8 @@ use Rattle.lists.specs.Questions.{outcome}
 use Rattle.lists.proofs.Questions.{accepted, outcome-part, parted, asked, both}
 use Rattle.hour.specs.declared.Plant.{Plant}
 use Rattle.hour.specs.Hour.{hourOf, allotment}
+use Rattle.records.specs.Records.{rowsOf}
+use Rattle.records.proofs.Figures.{length-rows}
 use Rattle.ledger.specs.Ledger.{Ledger, inBounds}
 use Rattle.month.specs.declared.Month.{Month}
 use Rattle.month.specs.declared.Settled.{Settled}
@@ -19,8 +21,7 @@ use Rattle.month.proofs.Asked as question
 use Rattle.file_lines.specs.declared.MonthFile.{MonthFile}
 use Rattle.file_lines.specs.File as file
 use Rattle.file_lines.specs.File.{settles, settled}
-use Rattle.file_lines.specs.State.{Kept, rowsOf, ledgerOf, progressOf, Lent, Settling, Valid, Moved, atStage, atRefusal, settledOf}
-use Rattle.file_lines.proofs.Rows.{length-rows}
+use Rattle.file_lines.specs.State.{Kept, ledgerOf, progressOf, Lent, Settling, Valid, Moved, atStage, atRefusal, settledOf}
 use Rattle.file_lines.proofs.Moves.{moved-as, refuses-by}
 use Rattle.file_lines.proofs.Opened.{number-itself, monthed, withLedger, lent-after, ledger-after}
 
@@ -67,13 +68,13 @@ module _ (m : Month) (plants : List Plant) (profile metered lent : List ℕ) (l 
 module _ (f : MonthFile) (k : Kept) (stage : f .stage ≡ 2) (v : Valid f k) (metered lent : List ℕ) (end : Settled) (ds ys : List ℕ) (zs : List ℤ)
     (few : length lent ≡ 4 * f .month .plants)
     (e : _≡_ {A = SettleEnd} (record { answer = end; allotment = ds; ledger = record { allotted = ys; accounts = zs } })
-    (settleCall (f .month) (rowsOf (f .month .plants) k) (take (f .month .periods) (k .profile)) metered lent (ledgerOf (f .month .plants) k)))
+    (settleCall (f .month) (rowsOf (f .month .plants) (k .columns)) (take (f .month .periods) (k .profile)) metered lent (ledgerOf (f .month .plants) k)))
     (many : length ys ≡ length (take (4 * f .month .plants) (k .allotted))) (more : length zs ≡ length (take (2 * f .month .plants) (k .accounts))) where
   abbrev m : Month
   m = f .month
 
   abbrev rows : List Plant
-  rows = rowsOf (m .plants) k
+  rows = rowsOf (m .plants) (k .columns)
 
   abbrev profile : List ℕ
   profile = take (m .periods) (k .profile)
@@ -96,7 +97,7 @@ module _ (f : MonthFile) (k : Kept) (stage : f .stage ≡ 2) (v : Valid f k) (me
   alike : settleNumber m rows profile metered lent ledger ≡ settleNumber m rows profile metered zeros ledger
   alike =
       settle-alike m rows profile metered lent zeros ledger
-      (few ∙ ap (λ (n : ℕ). 4 * n) (sym (length-rows k (v .lent) (m .plants) (g .plants))) ∙ sym (length-replicate (4 * length rows) 0))
+      (few ∙ ap (λ (n : ℕ). 4 * n) (sym (length-rows (m .plants) (k .columns))) ∙ sym (length-replicate (4 * length rows) 0))
 
   asks : end .number ≡ settleNumber m rows profile metered lent ledger
   asks = ap (λ (r : SettleEnd). r .answer .number) e ∙ settle-number _ _ _ _ _ _
@@ -126,11 +127,11 @@ module _ (f : MonthFile) (k : Kept) (stage : f .stage ≡ 2) (v : Valid f k) (me
         ap (λ (r : SettleEnd). outcome (r .answer .number) (settles rows profile (r .answer .month) (r .ledger)) (file.refuses (f .count + 1))) (sym left) ∙ rw z
 
     stands : progressOf (monthed (atStage f 2) (onward m)) after ≡ settles rows profile (onward m) (record { allotted = ys; accounts = zs })
-    unfolding progressOf atStage rowsOf
+    unfolding progressOf atStage
     stands = ap (settles rows profile (onward m)) ledger-is
 
     settled-moved : Moved f (settledOf f k metered) (monthed (atStage f 2) (onward m)) after
-    unfolding atStage rowsOf
+    unfolding atStage
     settled-moved =
         record {
           empty = refl;

@@ -14,11 +14,12 @@ use Rattle.lines.specs.Reading.{lineStart, lineFields, countFits, readNumber, R
 use Rattle.lines.specs.declared.reading.Line.{Line}
 use Rattle.lines.proofs.Commas.{fields-some}
 use Rattle.lines.proofs.Accepted.{Read, read-number, read-start, read-count, read-figures, read-yes, month-fields, plant-fields, period-fields, meter-fields}
+use Rattle.records.specs.Records.{rowsOf}
+use Rattle.records.proofs.Figures.{length-rows}
 use Rattle.file_lines.specs.declared.MonthFile.{MonthFile}
 use Rattle.file_lines.specs.File as file
 use Rattle.file_lines.specs.File.{whole, Progress, begins, settles, inTurn, begun, taken, read}
-use Rattle.file_lines.specs.State.{isRefused, Kept, rowsOf, ledgerOf, progressOf, gatherTurn, meterTurn, turn, Valid, Moved, atRefusal, settledOf, Figured}
-use Rattle.file_lines.proofs.Rows.{length-rows}
+use Rattle.file_lines.specs.State.{isRefused, Kept, ledgerOf, progressOf, gatherTurn, meterTurn, turn, Valid, Moved, atRefusal, settledOf, Figured}
 use Rattle.file_lines.proofs.Moves.{moved-as, refused-moved, refuses-by}
 use Rattle.file_lines.proofs.Gathered.{gathers-is}
 
@@ -38,7 +39,7 @@ module _ (f : MonthFile) (k : Kept) where
   begins-is e = rw e
 
   pub settles-is : f .stage ≡ 2
-      → progressOf f k ≡ settles (rowsOf (f .month .plants) k) (take (f .month .periods) (k .profile)) (f .month) (ledgerOf (f .month .plants) k)
+      → progressOf f k ≡ settles (rowsOf (f .month .plants) (k .columns)) (take (f .month .periods) (k .profile)) (f .month) (ledgerOf (f .month .plants) k)
   unfolding progressOf
   settles-is e = rw e
 
@@ -85,7 +86,7 @@ module _ (f : MonthFile) (k : Kept) (v : Valid f k) (due : f .stage ≤ 2) where
         rw (
           gathers-is f k e,
           e,
-          length-rows k (v .lent) (f .rows) (omega (arith, g .rows, g .plants)),
+          length-rows (f .rows) (k .columns),
           length-take-le (f .figures) (k .profile) (omega (arith, g .periods, g .figures, v .lent .profile)),
         )
 

@@ -5,9 +5,8 @@ use mathlib.Core.Bool.{Bool, true, false, cond, _&&_}
 use mathlib.Core.List.{List}
 use lib.Dec.{eqb, leb, ltb}
 use lib.IntN.{ℤ}
-use lib.ListN.{length, take, set, getD}
-use Rattle.hour.specs.declared.Plant.{Plant}
-use Rattle.hour.specs.Table.{plantsOf}
+use lib.ListN.{length, take}
+use Rattle.records.specs.Records.{rowsOf}
 use Rattle.ledger.specs.Ledger.{Ledger, inBounds}
 use Rattle.month.specs.declared.Month.{Month}
 use Rattle.questions.specs.Questions.{rowsNumber}
@@ -16,23 +15,15 @@ use Rattle.file_lines.specs.File.{Progress, begins, gathers, settles, re
 
 -- The lent lists that hold what was read: the plant table's columns, the profile, the ledger
 pub record Kept : Type 0 where
-  pub submarket : List ℕ
-  pub number : List ℕ
-  pub guarantee : List ℕ
-  pub loss : List ℕ
-  pub availability : List ℕ
+  pub columns : List ℕ
   pub profile : List ℕ
   pub allotted : List ℕ
   pub accounts : List ℤ
 
-abbrev pub kept : List ℕ → List ℕ → List ℕ → List ℕ → List ℕ → List ℕ → List ℕ → List ℤ → Kept
-kept ss ns gs ls vs profile allotted accounts =
-    record { submarket = ss; number = ns; guarantee = gs; loss = ls; availability = vs; profile = profile; allotted = allotted; accounts = accounts }
+abbrev pub kept : List ℕ → List ℕ → List ℕ → List ℤ → Kept
+kept columns profile allotted accounts = record { columns = columns; profile = profile; allotted = allotted; accounts = accounts }
 
--- the table's first n rows; the ledger of n plants
-unfoldable pub rowsOf : ℕ → Kept → List Plant
-rowsOf n k = plantsOf (take n (k .submarket)) (take n (k .number)) (take n (k .guarantee)) (take n (k .loss)) (take n (k .availability))
-
+-- the ledger of n plants
 unfoldable pub ledgerOf : ℕ → Kept → Ledger
 ledgerOf n k = record { allotted = take (4 * n) (k .allotted); accounts = take (2 * n) (k .accounts) }
 
@@ -41,9 +32,9 @@ unfoldable pub progressOf : MonthFile → Kept → Progress
 progressOf f k =
     cond (eqb (f .stage) 0) begins
     (cond (eqb (f .stage) 1)
-    (gathers (record { periods = f .periods; plants = f .plants; tariff = f .tariff }) (rowsOf (f .rows) k) (take (f .figures) (k .profile)))
+    (gathers (record { periods = f .periods; plants = f .plants; tariff = f .tariff }) (rowsOf (f .rows) (k .columns)) (take (f .figures) (k .profile)))
     (cond (eqb (f .stage) 2)
-    (settles (rowsOf (f .month .plants) k) (take (f .month .periods) (k .profile)) (f .month) (ledgerOf (f .month .plants) k))
+    (settles (rowsOf (f .month .plants) (k .columns)) (take (f .month .periods) (k .profile)) (f .month) (ledgerOf (f .month .plants) k))
     (refuses (f .count) (f .number))))
 
 -- whether a line was refused
@@ -57,11 +48,7 @@ isRefused (refuses k n) = true
 
 -- the lent lists are long enough for every month
 pub record Lent (k : Kept) : Type 0 where
-  pub submarket : 512 ≤ length (k .submarket)
-  pub number : 512 ≤ length (k .number)
-  pub guarantee : 512 ≤ length (k .guarantee)
-  pub loss : 512 ≤ length (k .loss)
-  pub availability : 512 ≤ length (k .availability)
+  pub columns : 2560 ≤ length (k .columns)
   pub profile : 744 ≤ length (k .profile)
   pub allotted : 4 * 512 ≤ length (k .allotted)
   pub accounts : 2 * 512 ≤ length (k .accounts)
@@ -80,7 +67,7 @@ pub record Settling (f : MonthFile) (k : Kept) : Type 0 where
   pub periods : f .month .periods ≤ 744
   pub due : f .month .due ≤ f .month .periods + 1
   pub counted : f .count ≡ f .month .plants + f .month .periods + f .month .due
-  pub rows : rowsNumber 0 0 (rowsOf (f .month .plants) k) ≡ 0
+  pub rows : rowsNumber 0 0 (rowsOf (f .month .plants) (k .columns)) ≡ 0
   pub bounded : inBounds (ledgerOf (f .month .plants) k) ≡ true
 
 pub record Valid (f : MonthFile) (k : Kept) : Type 0 where
@@ -151,14 +138,6 @@ turn f start period =
     (cond (eqb (f .stage) 2) (meterTurn (f .month) start period)
     false))
 
--- a row's figures stored at its place in the columns
-pub record RowStored (at : ℕ) (figures ss₀ ss ns₀ ns gs₀ gs ls₀ ls vs₀ vs : List ℕ) : Type 0 where
-  pub submarket : ss ≡ set ss₀ at (getD figures 0 0)
-  pub number : ns ≡ set ns₀ at (getD figures 1 0)
-  pub guarantee : gs ≡ set gs₀ at (getD figures 2 0)
-  pub loss : ls ≡ set ls₀ at (getD figures 3 0)
-  pub availability : vs ≡ set vs₀ at (getD figures 4 0)
-
 -- what opening asks: the first line's sizes in limits, and each line so far but the one just read was the first, a P or an H line
 pub record Openable (f : MonthFile) (k : Kept) : Type 0 where
   pub lent : Lent k
@@ -169,12 +148,12 @@ pub record Openable (f : MonthFile) (k : Kept) : Type 0 where
 -- the month of the rows and the profile that are kept, opened
 unfoldable pub openedOf : MonthFile → Kept → Progress
 openedOf f k =
-    opened (f .count + 1) (record { periods = f .periods; plants = f .plants; tariff = f .tariff }) (rowsOf (f .plants) k) (take (f .periods) (k .profile))
+    opened (f .count + 1) (record { periods = f .periods; plants = f .plants; tariff = f .tariff }) (rowsOf (f .plants) (k .columns)) (take (f .periods) (k .profile))
 
 -- the period due, settled with the metered figures of its line
 unfoldable pub settledOf : MonthFile → Kept → List ℕ → Progress
 settledOf f k metered =
-    settled (f .count + 1) (rowsOf (f .month .plants) k) (take (f .month .periods) (k .profile)) (f .month) (ledgerOf (f .month .plants) k) metered
+    settled (f .count + 1) (rowsOf (f .month .plants) (k .columns)) (take (f .month .periods) (k .profile)) (f .month) (ledgerOf (f .month .plants) k) metered
 
 -- the figures of a line in turn are as many as its taking reads
 pub record Figured (f : MonthFile) (figures : List ℕ) : Type 0 where

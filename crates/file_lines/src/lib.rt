@@ -6,7 +6,6 @@ ghost use Rattle.file_lines.specs.State.{atStage, atRefusal};
 
 pub mod beginning;
 mod gathering;
-mod keeping;
 mod opening;
 mod settling;
 pub mod taking;

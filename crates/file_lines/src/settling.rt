@@ -1,39 +1,30 @@
 // A G line is settled.
 use crate::MonthFile;
 ghost use mathlib.Core.Path.{_≡_};
-ghost use Prim.Native.Nat.{_*_, _≤_};
-ghost use lib.ListN.{length};
 ghost use Rattle.file_lines.specs.State.{kept, Valid, Moved, settledOf};
 
 // Settles the period due with the metered figures of its line.
 pub fn settle_line(
     file: MonthFile,
     metered: &[u64],
-    submarket: &[u64],
-    number: &[u64],
-    guarantee: &[u64],
-    loss: &[u64],
-    availability: &[u64],
+    columns: &[u64],
     profile: &[u64],
-    allotment: &mut [u64],
     allotted: &mut [u64],
     accounts: &mut [i64],
 ) -> MonthFile
-    requires { ⌜ (file .stage ≡ 2) × (4 * 512 ≤ length (now allotment)) ⌝ }
-    requires { ⌜ Valid file (kept (now submarket) (now number) (now guarantee) (now loss) (now availability) (now profile) (now allotted) (now accounts)) ⌝ }
-    ensures { λ r. ⌜ Moved file (settledOf file (kept (now (submarket .entry)) (now (number .entry)) (now (guarantee .entry)) (now (loss .entry)) (now (availability .entry)) (now (profile .entry)) (now (allotted .entry)) (now (accounts .entry))) (now (metered .entry))) r (kept (now (submarket .entry)) (now (number .entry)) (now (guarantee .entry)) (now (loss .entry)) (now (availability .entry)) (now (profile .entry)) (now (allotted .exit)) (now (accounts .exit))) ⌝ }
+    requires { ⌜ file .stage ≡ 2 ⌝ }
+    requires { ⌜ Valid file (kept (now columns) (now profile) (now allotted) (now accounts)) ⌝ }
+    ensures { λ r. ⌜ Moved file (settledOf file (kept (now (columns .entry)) (now (profile .entry)) (now (allotted .entry)) (now (accounts .entry))) (now (metered .entry))) r (kept (now (columns .entry)) (now (profile .entry)) (now (allotted .exit)) (now (accounts .exit))) ⌝ }
 {
     let month = file.month;
     let rows = month.plants as usize;
     let figures = month.periods as usize;
     let fours = 4 * rows;
     let twos = 2 * rows;
+    let mut allotment = [0u64; 2048];
     let end = month.settle_columns(
-        &submarket[..rows],
-        &number[..rows],
-        &guarantee[..rows],
-        &loss[..rows],
-        &availability[..rows],
+        rows,
+        columns,
         &profile[..figures],
         metered,
         &mut allotment[..fours],

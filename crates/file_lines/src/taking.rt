@@ -6,8 +6,7 @@ use crate::settling::settle_line;
 use crate::turns::in_turn;
 use lines::reading::read_line;
 ghost use mathlib.Core.Path.{_≡_};
-ghost use Prim.Native.Nat.{_+_, _*_, _≤_};
-ghost use lib.ListN.{length};
+ghost use Prim.Native.Nat.{_+_, _≤_};
 ghost use Rattle.file_lines.specs.File.{whole, taken, read};
 ghost use Rattle.file_lines.specs.State.{kept, progressOf, Valid, Moved, Figured};
 
@@ -15,72 +14,39 @@ ghost use Rattle.file_lines.specs.State.{kept, progressOf, Valid, Moved,
 pub fn take_figures(
     file: MonthFile,
     figures: &[u64],
-    submarket: &mut [u64],
-    number: &mut [u64],
-    guarantee: &mut [u64],
-    loss: &mut [u64],
-    availability: &mut [u64],
+    columns: &mut [u64],
     profile: &mut [u64],
-    allotment: &mut [u64],
     allotted: &mut [u64],
     accounts: &mut [i64],
 ) -> MonthFile
-    requires { ⌜ Figured file (now figures) × (4 * 512 ≤ length (now allotment)) ⌝ }
-    requires { ⌜ Valid file (kept (now submarket) (now number) (now guarantee) (now loss) (now availability) (now profile) (now allotted) (now accounts)) ⌝ }
-    ensures { λ r. ⌜ Moved file (taken (file .count + 1) (progressOf file (kept (now (submarket .entry)) (now (number .entry)) (now (guarantee .entry)) (now (loss .entry)) (now (availability .entry)) (now (profile .entry)) (now (allotted .entry)) (now (accounts .entry)))) (now (figures .entry))) r (kept (now (submarket .exit)) (now (number .exit)) (now (guarantee .exit)) (now (loss .exit)) (now (availability .exit)) (now (profile .exit)) (now (allotted .exit)) (now (accounts .exit))) ⌝ }
+    requires { ⌜ Figured file (now figures) ⌝ }
+    requires { ⌜ Valid file (kept (now columns) (now profile) (now allotted) (now accounts)) ⌝ }
+    ensures { λ r. ⌜ Moved file (taken (file .count + 1) (progressOf file (kept (now (columns .entry)) (now (profile .entry)) (now (allotted .entry)) (now (accounts .entry)))) (now (figures .entry))) r (kept (now (columns .exit)) (now (profile .exit)) (now (allotted .exit)) (now (accounts .exit))) ⌝ }
 {
     if file.stage == 0 {
         return begun(file, figures[0], figures[1], figures[2]);
     }
     if file.stage == 1 {
-        return gather(
-            file,
-            figures,
-            submarket,
-            number,
-            guarantee,
-            loss,
-            availability,
-            profile,
-            allotted,
-            accounts,
-        );
+        return gather(file, figures, columns, profile, allotted, accounts);
     }
-    settle_line(
-        file,
-        &figures[1..],
-        submarket,
-        number,
-        guarantee,
-        loss,
-        availability,
-        profile,
-        allotment,
-        allotted,
-        accounts,
-    )
+    settle_line(file, &figures[1..], columns, profile, allotted, accounts)
 }
 
 // A line with its byte 10: 26 to 30 first, then 31, then the other questions.
 pub fn take_line(
     file: MonthFile,
     line: &[u8],
-    figures: &mut [u64],
-    submarket: &mut [u64],
-    number: &mut [u64],
-    guarantee: &mut [u64],
-    loss: &mut [u64],
-    availability: &mut [u64],
+    columns: &mut [u64],
     profile: &mut [u64],
-    allotment: &mut [u64],
     allotted: &mut [u64],
     accounts: &mut [i64],
 ) -> MonthFile
-    requires { ⌜ (file .stage ≤ 2) × (length (now figures) ≡ 513) × (4 * 512 ≤ length (now allotment)) ⌝ }
-    requires { ⌜ Valid file (kept (now submarket) (now number) (now guarantee) (now loss) (now availability) (now profile) (now allotted) (now accounts)) ⌝ }
-    ensures { λ r. ⌜ Moved file (read (file .count + 1) (progressOf file (kept (now (submarket .entry)) (now (number .entry)) (now (guarantee .entry)) (now (loss .entry)) (now (availability .entry)) (now (profile .entry)) (now (allotted .entry)) (now (accounts .entry)))) (whole (now (line .entry)))) r (kept (now (submarket .exit)) (now (number .exit)) (now (guarantee .exit)) (now (loss .exit)) (now (availability .exit)) (now (profile .exit)) (now (allotted .exit)) (now (accounts .exit))) ⌝ }
+    requires { ⌜ file .stage ≤ 2 ⌝ }
+    requires { ⌜ Valid file (kept (now columns) (now profile) (now allotted) (now accounts)) ⌝ }
+    ensures { λ r. ⌜ Moved file (read (file .count + 1) (progressOf file (kept (now (columns .entry)) (now (profile .entry)) (now (allotted .entry)) (now (accounts .entry)))) (whole (now (line .entry)))) r (kept (now (columns .exit)) (now (profile .exit)) (now (allotted .exit)) (now (accounts .exit))) ⌝ }
 {
-    let answer = read_line(line, figures);
+    let mut figures = [0u64; 513];
+    let answer = read_line(line, &mut figures);
     if answer.number != 0 {
         return file.refused(answer.number);
     }
@@ -91,13 +57,8 @@ pub fn take_line(
     take_figures(
         file,
         &figures[..count],
-        submarket,
-        number,
-        guarantee,
-        loss,
-        availability,
+        columns,
         profile,
-        allotment,
         allotted,
         accounts,
     )

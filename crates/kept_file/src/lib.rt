@@ -97,35 +97,15 @@ pub fn feed_kept(
     file: KeptFile,
     part: &[u8],
     line: &mut [u8],
-    figures: &mut [u64],
-    submarket: &mut [u64],
-    number: &mut [u64],
-    guarantee: &mut [u64],
-    loss: &mut [u64],
-    availability: &mut [u64],
+    columns: &mut [u64],
     profile: &mut [u64],
-    allotment: &mut [u64],
     allotted: &mut [u64],
     accounts: &mut [i64],
 ) -> KeptFed
-    ensures { λ r. ⌜ FileFed file (now (part .entry)) (record { held = kept (now (submarket .entry)) (now (number .entry)) (now (guarantee .entry)) (now (loss .entry)) (now (availability .entry)) (now (profile .entry)) (now (allotted .entry)) (now (accounts .entry)); line = now (line .entry); figures = now (figures .entry); allotment = now (allotment .entry) }) r (record { held = kept (now (submarket .exit)) (now (number .exit)) (now (guarantee .exit)) (now (loss .exit)) (now (availability .exit)) (now (profile .exit)) (now (allotted .exit)) (now (accounts .exit)); line = now (line .exit); figures = now (figures .exit); allotment = now (allotment .exit) }) ⌝ }
+    ensures { λ r. ⌜ FileFed file (now (part .entry)) (record { held = kept (now (columns .entry)) (now (profile .entry)) (now (allotted .entry)) (now (accounts .entry)); line = now (line .entry) }) r (record { held = kept (now (columns .exit)) (now (profile .exit)) (now (allotted .exit)) (now (accounts .exit)); line = now (line .exit) }) ⌝ }
 {
     let meant = file_of(file);
-    let fed = file_calls::feed_any(
-        meant,
-        part,
-        line,
-        figures,
-        submarket,
-        number,
-        guarantee,
-        loss,
-        availability,
-        profile,
-        allotment,
-        allotted,
-        accounts,
-    );
+    let fed = file_calls::feed_any(meant, part, line, columns, profile, allotted, accounts);
     let after = fed.file;
     KeptFed {
         number: fed.number,
@@ -137,34 +117,16 @@ pub fn feed_kept(
 pub fn finish_kept(
     file: KeptFile,
     line: &[u8],
-    figures: &mut [u64],
-    submarket: &[u64],
-    number: &[u64],
-    guarantee: &[u64],
-    loss: &[u64],
-    availability: &[u64],
+    columns: &[u64],
     profile: &[u64],
     allotted: &[u64],
     accounts: &[i64],
     text: &mut [u8],
 ) -> KeptFinished
-    ensures { λ r. ⌜ FinishedAny (fileOf file) (record { held = kept (now (submarket .entry)) (now (number .entry)) (now (guarantee .entry)) (now (loss .entry)) (now (availability .entry)) (now (profile .entry)) (now (allotted .entry)) (now (accounts .entry)); line = now (line .entry); figures = now (figures .entry); text = now (text .entry) }) (record { number = r .number; length = r .length }) (record { held = kept (now (submarket .entry)) (now (number .entry)) (now (guarantee .entry)) (now (loss .entry)) (now (availability .entry)) (now (profile .entry)) (now (allotted .entry)) (now (accounts .entry)); line = now (line .entry); figures = now (figures .exit); text = now (text .exit) }) ⌝ }
+    ensures { λ r. ⌜ FinishedAny (fileOf file) (record { held = kept (now (columns .entry)) (now (profile .entry)) (now (allotted .entry)) (now (accounts .entry)); line = now (line .entry); text = now (text .entry) }) (record { number = r .number; length = r .length }) (record { held = kept (now (columns .entry)) (now (profile .entry)) (now (allotted .entry)) (now (accounts .entry)); line = now (line .entry); text = now (text .exit) }) ⌝ }
 {
     let meant = file_of(file);
-    let finished = file_calls::finish_any(
-        meant,
-        line,
-        figures,
-        submarket,
-        number,
-        guarantee,
-        loss,
-        availability,
-        profile,
-        allotted,
-        accounts,
-        text,
-    );
+    let finished = file_calls::finish_any(meant, line, columns, profile, allotted, accounts, text);
     KeptFinished {
         number: finished.number,
         length: finished.length as u64,

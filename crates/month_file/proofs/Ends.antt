@@ -1,5 +1,5 @@
 -- The end of the file: the refusal, or the statement after close. Assumes nothing.
-use mathlib.Core.Path.{_≡_, refl, sym, ap, subst, _∙_}
+use mathlib.Core.Path.{_≡_, refl, sym, ap, ap₂, subst, _∙_}
 use mathlib.Core.Bool.{false}
 use mathlib.Core.List.{List, [], _∷_, _++_, map, append-assoc}
 use Prim.Native.Nat.{ℕ, zero, suc, _+_, _-_, _*_, _^_, _≤_, _<_}
@@ -16,6 +16,8 @@ use Rattle.lines.proofs.Accepted.{read-number}
 use Rattle.figures.proofs.Decimal.{length-le-20}
 use Rattle.hour.specs.declared.Plant.{Plant}
 use Rattle.hour.specs.Table.{plantsOf}
+use Rattle.records.specs.Records.{columnOf, rowsOf}
+use Rattle.records.proofs.Figures.{length-rows, length-column, columns-rows}
 use Rattle.ledger.specs.Ledger.{Ledger}
 use Rattle.month.specs.declared.Month.{Month}
 use Rattle.month.specs.declared.Ended as month
@@ -33,11 +35,10 @@ use Rattle.file_lines.specs.declared.MonthFile.{MonthFile}
 use Rattle.file_lines.specs.File as file
 use Rattle.file_lines.specs.File.{unfinished, Progress, read, refusal, printed, following}
 use Rattle.month_file.specs.Bytes.{finished}
-use Rattle.file_lines.specs.State.{Kept, rowsOf, ledgerOf, progressOf, Settling, Valid, atRefusal}
+use Rattle.file_lines.specs.State.{Kept, ledgerOf, progressOf, Settling, Valid, atRefusal}
 use Rattle.month_file.specs.Machine.{readingOf, unendedNumber, Finishable, AtEnd}
 use Rattle.file_lines.proofs.Following.{stays, reads}
 use Rattle.month_file.proofs.Bytes.{unfinished-some}
-use Rattle.file_lines.proofs.Rows.{length-rows}
 use Rattle.file_lines.proofs.Gathered.{gathers-is}
 use Rattle.file_lines.proofs.Taken.{by-stage, begins-is, settles-is, unrefused}
 use Rattle.month_file.proofs.Parts.{refused-progress}
@@ -150,7 +151,7 @@ module _ (f : MonthFile) (k : Kept) (w : Finishable f k) (end : month.Ended) (e 
   m = f .month
 
   abbrev rows : List Plant
-  rows = rowsOf (m .plants) k
+  rows = rowsOf (m .plants) (k .columns)
 
   abbrev ledger : Ledger
   ledger = ledgerOf (m .plants) k
@@ -178,13 +179,16 @@ module _ (f : MonthFile) (k : Kept) (w : Finishable f k) (end : month.Ended) (e 
     some-due = omega (arith, month-due, w .last)
 
     abbrev ss : List ℕ
-    ss = take (m .plants) (k .submarket)
+    ss = columnOf 0 (m .plants) (k .columns)
 
     abbrev ns : List ℕ
-    ns = take (m .plants) (k .number)
+    ns = columnOf 1 (m .plants) (k .columns)
 
     p-rows : length rows ≡ m .plants
-    p-rows = length-rows k (w .valid .lent) (m .plants) (g .plants)
+    p-rows = length-rows (m .plants) (k .columns)
+
+    made : plantsOf ss ns (columnOf 2 (m .plants) (k .columns)) (columnOf 3 (m .plants) (k .columns)) (columnOf 4 (m .plants) (k .columns)) ≡ rows
+    made = columns-rows (m .plants) (k .columns) (w .valid .lent .columns) (g .plants)
 
     in-limits : InLimits settled rows ledger
     unfolding ledgerOf
@@ -200,23 +204,32 @@ module _ (f : MonthFile) (k : Kept) (w : Finishable f k) (end : month.Ended) (e 
         }
 
     s-rows : length ss ≡ m .plants
-    s-rows = length-take-le (m .plants) (k .submarket) (omega (arith, g .plants, w .valid .lent .submarket))
+    s-rows = length-column (m .plants) (k .columns) (w .valid .lent .columns) (g .plants) 0 (omega arith)
 
     n-rows : length ns ≡ m .plants
-    n-rows = length-take-le (m .plants) (k .number) (omega (arith, g .plants, w .valid .lent .number))
+    n-rows = length-column (m .plants) (k .columns) (w .valid .lent .columns) (g .plants) 1 (omega arith)
 
-    pub statable : (text : List ℕ) → 128 * 512 + 128 ≤ length text
+    statable-columns : (text : List ℕ) → 128 * 512 + 128 ≤ length text
         → Stateable ss ns ledger × (statementLength settled (plantsOf ss ns [] [] []) ledger ≤ length text)
-    unfolding rowsOf roomFor
-    statable text h =
-        let c = callable settled ss ns _ _ _ ledger (n-rows ∙ sym s-rows) in-limits in
+    unfolding roomFor
+    statable-columns text h =
+        let c = callable settled ss ns _ _ _ ledger (n-rows ∙ sym s-rows) (subst (λ (ps : List Plant). InLimits settled ps ledger) (sym made) in-limits) in
         (c .0, omega (arith, c .1, s-rows, g .plants))
 
-    pub closing-stated : {before : List ℕ} {r : ℕ} {after : List ℕ} → Fills (statementText settled (plantsOf ss ns [] [] []) ledger) before r after
-        → Fills (printed (f .count) (progressOf f k)) before r after
-    unfolding rowsOf
-    closing-stated {before} {r} {after} h =
-        subst (λ (t : List ℕ). Fills t before r after) (sym (text-columns settled ss ns _ _ _ ledger) ∙ sym (accepted (end .number) _ (refusal (f .count)) z) ∙ sym prints) h
+    -- the two columns that are shown, as they are lent
+    module _ (xs ys : List ℕ) (x : xs ≡ ss) (y : ys ≡ ns) where
+      pub statable : (text : List ℕ) → 128 * 512 + 128 ≤ length text
+          → Stateable xs ys ledger × (statementLength settled (plantsOf xs ys [] [] []) ledger ≤ length text)
+      statable text h =
+          subst (λ (l : List ℕ). Stateable l ys ledger × (statementLength settled (plantsOf l ys [] [] []) ledger ≤ length text)) (sym x)
+          (subst (λ (l : List ℕ). Stateable ss l ledger × (statementLength settled (plantsOf ss l [] [] []) ledger ≤ length text)) (sym y) (statable-columns text h))
+
+      pub closing-stated : {before : List ℕ} {r : ℕ} {after : List ℕ} → Fills (statementText settled (plantsOf xs ys [] [] []) ledger) before r after
+          → Fills (printed (f .count) (progressOf f k)) before r after
+      closing-stated {before} {r} {after} h =
+          subst (λ (t : List ℕ). Fills t before r after)
+          (ap₂ (λ (a b : List ℕ). statementText settled (plantsOf a b [] [] []) ledger) x y ∙ sym (text-columns settled ss ns _ _ _ ledger)
+          ∙ ap (λ (ps : List Plant). statementText settled ps ledger) made ∙ sym (accepted (end .number) _ (refusal (f .count)) z) ∙ sym prints) h
 
 -- ---- what is printed
 

@@ -13,7 +13,7 @@ use Rattle.file_lines.specs.File as file
 use Rattle.file_lines.specs.File.{whole, read}
 use Rattle.file_lines.specs.State.{isRefused, Kept, progressOf, Valid, Moved, atRefusal}
 use Rattle.month_file.specs.Bytes.{Reading, ended, longer, byte, fed}
-use Rattle.month_file.specs.Machine.{readingOf, Collected, WorkLists, Stepped, Fed}
+use Rattle.month_file.specs.Machine.{readingOf, Collected, Stepped, Fed}
 use Rattle.file_lines.proofs.Following.{reads}
 use Rattle.file_lines.proofs.Moves.{refused-moved}
 use Rattle.file_lines.proofs.Taken.{unrefused}
@@ -152,68 +152,40 @@ module _ (f : MonthFile) (k : Kept) (v : Valid f k) (line part : List ℕ) (from
 -- ---- the part
 
 -- the lists have the lengths that they had
-pub record Alike (line₀ figures₀ allotment₀ : List ℕ) (k₀ : Kept) (line figures allotment : List ℕ) (k : Kept) : Type 0 where
+pub record Alike (line₀ : List ℕ) (k₀ : Kept) (line : List ℕ) (k : Kept) : Type 0 where
   pub bytes : length line ≡ length line₀
-  pub places : length figures ≡ length figures₀
-  pub fours : length allotment ≡ length allotment₀
-  pub submarket : length (k .submarket) ≡ length (k₀ .submarket)
-  pub number : length (k .number) ≡ length (k₀ .number)
-  pub guarantee : length (k .guarantee) ≡ length (k₀ .guarantee)
-  pub loss : length (k .loss) ≡ length (k₀ .loss)
-  pub availability : length (k .availability) ≡ length (k₀ .availability)
+  pub columns : length (k .columns) ≡ length (k₀ .columns)
   pub profile : length (k .profile) ≡ length (k₀ .profile)
   pub allotted : length (k .allotted) ≡ length (k₀ .allotted)
   pub accounts : length (k .accounts) ≡ length (k₀ .accounts)
 
-pub alike-self : {line figures allotment : List ℕ} {k : Kept} → Alike line figures allotment k line figures allotment k
+pub alike-self : {line : List ℕ} {k : Kept} → Alike line k line k
 alike-self =
     record {
       bytes = refl;
-      places = refl;
-      fours = refl;
-      submarket = refl;
-      number = refl;
-      guarantee = refl;
-      loss = refl;
-      availability = refl;
+      columns = refl;
       profile = refl;
       allotted = refl;
       accounts = refl;
     }
 
-module _ {line₀ figures₀ allotment₀ : List ℕ} {k₀ : Kept} {line figures allotment : List ℕ} {k : Kept} {line₁ figures₁ allotment₁ : List ℕ} {k₁ : Kept} where
-  pub alike-more : Alike line₀ figures₀ allotment₀ k₀ line figures allotment k → Alike line figures allotment k line₁ figures₁ allotment₁ k₁
-      → Alike line₀ figures₀ allotment₀ k₀ line₁ figures₁ allotment₁ k₁
+module _ {line₀ : List ℕ} {k₀ : Kept} {line : List ℕ} {k : Kept} {line₁ : List ℕ} {k₁ : Kept} where
+  pub alike-more : Alike line₀ k₀ line k → Alike line k line₁ k₁
+      → Alike line₀ k₀ line₁ k₁
   alike-more a s =
       record {
         bytes = s .bytes ∙ a .bytes;
-        places = s .places ∙ a .places;
-        fours = s .fours ∙ a .fours;
-        submarket = s .submarket ∙ a .submarket;
-        number = s .number ∙ a .number;
-        guarantee = s .guarantee ∙ a .guarantee;
-        loss = s .loss ∙ a .loss;
-        availability = s .availability ∙ a .availability;
+        columns = s .columns ∙ a .columns;
         profile = s .profile ∙ a .profile;
         allotted = s .allotted ∙ a .allotted;
         accounts = s .accounts ∙ a .accounts;
       }
 
-pub room-alike : {line figures allotment : List ℕ} {k : Kept} {line₁ figures₁ allotment₁ : List ℕ} {k₁ : Kept} → WorkLists line figures allotment
-    → Alike line figures allotment k line₁ figures₁ allotment₁ k₁ → WorkLists line₁ figures₁ allotment₁
-room-alike w s = record { bytes = omega (arith, w .bytes, s .bytes); places = s .places ∙ w .places; fours = omega (arith, w .fours, s .fours) }
-
-pub bytes-alike : {line line₁ figures allotment : List ℕ} {k : Kept} → length line₁ ≡ length line → Alike line figures allotment k line₁ figures allotment k
+pub bytes-alike : {line line₁ : List ℕ} {k : Kept} → length line₁ ≡ length line → Alike line k line₁ k
 bytes-alike l =
     record {
       bytes = l;
-      places = refl;
-      fours = refl;
-      submarket = refl;
-      number = refl;
-      guarantee = refl;
-      loss = refl;
-      availability = refl;
+      columns = refl;
       profile = refl;
       allotted = refl;
       accounts = refl;
@@ -227,15 +199,15 @@ line-taken f k v due line m =
     rw (m .stands, m .empty, m .counted, reads (f .count + 1) (progressOf f k) (whole (take (f .length) line)) (unrefused f k v due))
 
 -- a loop that has taken a part up to a byte
-pub record Feeding (part line₀ figures₀ allotment₀ : List ℕ) (k₀ : Kept) (f₀ : MonthFile) (line figures allotment : List ℕ) (k : Kept) (f : MonthFile) (at : ℕ) : Type 0 where
+pub record Feeding (part line₀ : List ℕ) (k₀ : Kept) (f₀ : MonthFile) (line : List ℕ) (k : Kept) (f : MonthFile) (at : ℕ) : Type 0 where
   pub high : at ≤ length part
-  pub room : WorkLists line figures allotment
-  pub alike : Alike line₀ figures₀ allotment₀ k₀ line figures allotment k
+  pub room : 8192 ≤ length line
+  pub alike : Alike line₀ k₀ line k
   pub valid : Valid f k
   pub same : fed (readingOf f₀ k₀ line₀) part ≡ fed (readingOf f k line) (drop at part)
 
-module _ {part line₀ figures₀ allotment₀ : List ℕ} {k₀ : Kept} {f₀ : MonthFile} where
-  pub feeding : WorkLists line₀ figures₀ allotment₀ → Valid f₀ k₀ → Feeding part line₀ figures₀ allotment₀ k₀ f₀ line₀ figures₀ allotment₀ k₀ f₀ 0
+module _ {part line₀ : List ℕ} {k₀ : Kept} {f₀ : MonthFile} where
+  pub feeding : 8192 ≤ length line₀ → Valid f₀ k₀ → Feeding part line₀ k₀ f₀ line₀ k₀ f₀ 0
   feeding w v =
       record {
         high = omega arith;
@@ -245,23 +217,23 @@ module _ {part line₀ figures₀ allotment₀ : List ℕ} {k₀ : Kept} {f₀ :
         same = refl;
       }
 
-  module _ {line figures allotment : List ℕ} {k : Kept} {f : MonthFile} {at : ℕ} (c : Feeding part line₀ figures₀ allotment₀ k₀ f₀ line figures allotment k f at) where
+  module _ {line : List ℕ} {k : Kept} {f : MonthFile} {at : ℕ} (c : Feeding part line₀ k₀ f₀ line k f at) where
     -- bytes that end no line
     pub feeding-on : {f₁ : MonthFile} {line₁ : List ℕ} {to : ℕ} {isEnded : Bool} → Stepped f k line part at f₁ line₁ to isEnded → isEnded ≡ false → length line₁ ≡ length line
-        → Feeding part line₀ figures₀ allotment₀ k₀ f₀ line₁ figures allotment k f₁ to
+        → Feeding part line₀ k₀ f₀ line₁ k f₁ to
     feeding-on s e l =
         let a = bytes-alike l in
-        record { high = s .high; room = room-alike (c .room) a; alike = alike-more (c .alike) a; valid = s .valid; same = c .same ∙ s .goes e }
+        record { high = s .high; room = omega (arith, c .room, l); alike = alike-more (c .alike) a; valid = s .valid; same = c .same ∙ s .goes e }
 
     -- ... and a line that is taken
     pub feeding-line : {f₁ : MonthFile} {line₁ : List ℕ} {to : ℕ} {isEnded : Bool} → Stepped f k line part at f₁ line₁ to isEnded → isEnded ≡ true → length line₁ ≡ length line
-        → {figures₁ allotment₁ : List ℕ} {k₁ : Kept} {f₂ : MonthFile} → Moved f₁ (read (f₁ .count + 1) (progressOf f₁ k) (whole (take (f₁ .length) line₁))) f₂ k₁
-        → Alike line₁ figures allotment k line₁ figures₁ allotment₁ k₁ → Feeding part line₀ figures₀ allotment₀ k₀ f₀ line₁ figures₁ allotment₁ k₁ f₂ to
+        → {k₁ : Kept} {f₂ : MonthFile} → Moved f₁ (read (f₁ .count + 1) (progressOf f₁ k) (whole (take (f₁ .length) line₁))) f₂ k₁
+        → Alike line₁ k line₁ k₁ → Feeding part line₀ k₀ f₀ line₁ k₁ f₂ to
     feeding-line {f₁} {line₁} {to} s e l m w =
         let a = alike-more (bytes-alike l) w in
         record {
           high = s .high;
-          room = room-alike (c .room) a;
+          room = omega (arith, c .room, l);
           alike = alike-more (c .alike) a;
           valid = m .valid;
           same = c .same ∙ s .ends e ∙ ap (λ (r : Reading). fed r (drop to part)) (line-taken f₁ k (s .valid) (s .due e) line₁ m);

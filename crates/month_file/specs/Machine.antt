@@ -32,12 +32,6 @@ pub record Fresh (f : MonthFile) (k : Kept) (line : List ℕ) : Type 0 where
   pub valid : Valid f k
   pub stands : readingOf f k line ≡ start
 
--- the lists that a line is worked in: its bytes, its figures, an hour's allotment
-pub record WorkLists (line figures allotment : List ℕ) : Type 0 where
-  pub bytes : 8192 ≤ length line
-  pub places : length figures ≡ 513
-  pub fours : 4 * 512 ≤ length allotment
-
 -- bytes of a part were taken, up to `to`: the rest of it gives from here on what it gave from `from` on, once a line that has come to its byte 10
 -- is taken
 pub record Stepped (f : MonthFile) (k : Kept) (line part : List ℕ) (from : ℕ) (r : MonthFile) (after : List ℕ) (to : ℕ) (isEnded : Bool) : Type 0 where

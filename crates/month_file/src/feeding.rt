@@ -6,7 +6,7 @@ ghost use mathlib.Core.Path.{_≡_};
 ghost use Prim.Native.Nat.{_≤_, _<_};
 ghost use lib.ListN.{length};
 ghost use Rattle.file_lines.specs.State.{Kept, kept, Valid};
-ghost use Rattle.month_file.specs.Machine.{WorkLists, Stepped, Fed};
+ghost use Rattle.month_file.specs.Machine.{Stepped, Fed};
 
 // How far the file and the part have come, and whether the line has come to its byte 10.
 struct Step {
@@ -59,20 +59,14 @@ pub fn feed(
     file: MonthFile,
     part: &[u8],
     line: &mut [u8],
-    figures: &mut [u64],
-    submarket: &mut [u64],
-    number: &mut [u64],
-    guarantee: &mut [u64],
-    loss: &mut [u64],
-    availability: &mut [u64],
+    columns: &mut [u64],
     profile: &mut [u64],
-    allotment: &mut [u64],
     allotted: &mut [u64],
     accounts: &mut [i64],
 ) -> MonthFile
-    requires { ⌜ WorkLists (now line) (now figures) (now allotment) ⌝ }
-    requires { ⌜ Valid file (kept (now submarket) (now number) (now guarantee) (now loss) (now availability) (now profile) (now allotted) (now accounts)) ⌝ }
-    ensures { λ r. ⌜ Fed file (kept (now (submarket .entry)) (now (number .entry)) (now (guarantee .entry)) (now (loss .entry)) (now (availability .entry)) (now (profile .entry)) (now (allotted .entry)) (now (accounts .entry))) (now (line .entry)) (now (part .entry)) r (kept (now (submarket .exit)) (now (number .exit)) (now (guarantee .exit)) (now (loss .exit)) (now (availability .exit)) (now (profile .exit)) (now (allotted .exit)) (now (accounts .exit))) (now (line .exit)) ⌝ }
+    requires { ⌜ 8192 ≤ length (now line) ⌝ }
+    requires { ⌜ Valid file (kept (now columns) (now profile) (now allotted) (now accounts)) ⌝ }
+    ensures { λ r. ⌜ Fed file (kept (now (columns .entry)) (now (profile .entry)) (now (allotted .entry)) (now (accounts .entry))) (now (line .entry)) (now (part .entry)) r (kept (now (columns .exit)) (now (profile .exit)) (now (allotted .exit)) (now (accounts .exit))) (now (line .exit)) ⌝ }
 {
     let mut f = file;
     let mut at: usize = 0;
@@ -82,20 +76,7 @@ pub fn feed(
         at = step.at;
         if step.ended {
             let length = f.length;
-            f = take_line(
-                f,
-                &line[..length],
-                figures,
-                submarket,
-                number,
-                guarantee,
-                loss,
-                availability,
-                profile,
-                allotment,
-                allotted,
-                accounts,
-            );
+            f = take_line(f, &line[..length], columns, profile, allotted, accounts);
         }
     }
     f

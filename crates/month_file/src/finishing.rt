@@ -25,11 +25,12 @@ fn write_refusal(line: u64, number: u64, text: &mut [u8]) -> usize
 }
 
 // A line without its byte 10: 26 to 30 first, then 31.
-fn unended(file: MonthFile, line: &[u8], figures: &mut [u64]) -> MonthFile
-    requires { ⌜ (file .count < 10000) × (length (now figures) ≡ 513) ⌝ }
+fn unended(file: MonthFile, line: &[u8]) -> MonthFile
+    requires { ⌜ file .count < 10000 ⌝ }
     ensures { λ r. ⌜ r ≡ atRefusal file (unendedNumber (now (line .entry))) ⌝ }
 {
-    let answer = read_line(line, figures);
+    let mut figures = [0u64; 513];
+    let answer = read_line(line, &mut figures);
     if answer.number != 0 {
         return file.refused(answer.number);
     }
@@ -37,8 +38,8 @@ fn unended(file: MonthFile, line: &[u8], figures: &mut [u64]) -> MonthFile
 }
 
 // The state after the last byte. An early end is 31 too, as the line after the last.
-fn at_end(file: MonthFile, line: &[u8], figures: &mut [u64]) -> MonthFile
-    requires { ⌜ (file .stage ≤ 2 → file .count < 10000) × (file .length ≤ length (now line)) × (length (now figures) ≡ 513) ⌝ }
+fn at_end(file: MonthFile, line: &[u8]) -> MonthFile
+    requires { ⌜ (file .stage ≤ 2 → file .count < 10000) × (file .length ≤ length (now line)) ⌝ }
     ensures { λ r. ⌜ ((k : Kept) → Valid file k → AtEnd file k (now (line .entry)) r) ⌝ }
 {
     if 2 < file.stage {
@@ -46,7 +47,7 @@ fn at_end(file: MonthFile, line: &[u8], figures: &mut [u64]) -> MonthFile
     }
     let length = file.length;
     if length != 0 {
-        return unended(file, &line[..length], figures);
+        return unended(file, &line[..length]);
     }
     if file.stage != 2 {
         return file.refused(31);
@@ -61,18 +62,14 @@ fn at_end(file: MonthFile, line: &[u8], figures: &mut [u64]) -> MonthFile
 // Every period is settled: the month is closed, and its statement written.
 fn write_month(
     file: MonthFile,
-    submarket: &[u64],
-    number: &[u64],
-    guarantee: &[u64],
-    loss: &[u64],
-    availability: &[u64],
+    columns: &[u64],
     profile: &[u64],
     allotted: &[u64],
     accounts: &[i64],
     text: &mut [u8],
 ) -> usize
-    requires { ⌜ Finishable file (kept (now submarket) (now number) (now guarantee) (now loss) (now availability) (now profile) (now allotted) (now accounts)) × (128 * 512 + 128 ≤ length (now text)) ⌝ }
-    ensures { λ r. ⌜ Fills (printed (file .count) (progressOf file (kept (now (submarket .entry)) (now (number .entry)) (now (guarantee .entry)) (now (loss .entry)) (now (availability .entry)) (now (profile .entry)) (now (allotted .entry)) (now (accounts .entry))))) (now (text .entry)) r (now (text .exit)) ⌝ }
+    requires { ⌜ Finishable file (kept (now columns) (now profile) (now allotted) (now accounts)) × (128 * 512 + 128 ≤ length (now text)) ⌝ }
+    ensures { λ r. ⌜ Fills (printed (file .count) (progressOf file (kept (now (columns .entry)) (now (profile .entry)) (now (allotted .entry)) (now (accounts .entry))))) (now (text .entry)) r (now (text .exit)) ⌝ }
 {
     let month = file.month;
     let end = month.close();
@@ -83,10 +80,12 @@ fn write_month(
     let rows = month.plants as usize;
     let fours = 4 * rows;
     let twos = 2 * rows;
+    let submarket = records::column(columns, 0, rows);
+    let number = records::column(columns, 1, rows);
     write_statement(
         closed.due - 1,
-        &submarket[..rows],
-        &number[..rows],
+        submarket,
+        number,
         &allotted[..fours],
         &accounts[..twos],
         text,
@@ -97,35 +96,19 @@ fn write_month(
 pub fn finish(
     file: MonthFile,
     line: &[u8],
-    figures: &mut [u64],
-    submarket: &[u64],
-    number: &[u64],
-    guarantee: &[u64],
-    loss: &[u64],
-    availability: &[u64],
+    columns: &[u64],
     profile: &[u64],
     allotted: &[u64],
     accounts: &[i64],
     text: &mut [u8],
 ) -> usize
-    requires { ⌜ (8192 ≤ length (now line)) × (length (now figures) ≡ 513) × (128 * 512 + 128 ≤ length (now text)) ⌝ }
-    requires { ⌜ Valid file (kept (now submarket) (now number) (now guarantee) (now loss) (now availability) (now profile) (now allotted) (now accounts)) ⌝ }
-    ensures { λ r. ⌜ Fills (finished (readingOf file (kept (now (submarket .entry)) (now (number .entry)) (now (guarantee .entry)) (now (loss .entry)) (now (availability .entry)) (now (profile .entry)) (now (allotted .entry)) (now (accounts .entry))) (now (line .entry)))) (now (text .entry)) r (now (text .exit)) ⌝ }
+    requires { ⌜ (8192 ≤ length (now line)) × (128 * 512 + 128 ≤ length (now text)) ⌝ }
+    requires { ⌜ Valid file (kept (now columns) (now profile) (now allotted) (now accounts)) ⌝ }
+    ensures { λ r. ⌜ Fills (finished (readingOf file (kept (now (columns .entry)) (now (profile .entry)) (now (allotted .entry)) (now (accounts .entry))) (now (line .entry)))) (now (text .entry)) r (now (text .exit)) ⌝ }
 {
-    let end = at_end(file, line, figures);
+    let end = at_end(file, line);
     if 2 < end.stage {
         return write_refusal(end.count, end.number, text);
     }
-    write_month(
-        end,
-        submarket,
-        number,
-        guarantee,
-        loss,
-        availability,
-        profile,
-        allotted,
-        accounts,
-        text,
-    )
+    write_month(end, columns, profile, allotted, accounts, text)
 }

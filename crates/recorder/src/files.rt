@@ -21,34 +21,14 @@ pub extern "C" fn iolwarch_file_feed(
     file: KeptFile,
     part: &[u8],
     line: &mut [u8],
-    figures: &mut [u64],
-    submarket: &mut [u64],
-    number: &mut [u64],
-    guarantee: &mut [u64],
-    loss: &mut [u64],
-    availability: &mut [u64],
+    columns: &mut [u64],
     profile: &mut [u64],
-    allotment: &mut [u64],
     allotted: &mut [u64],
     accounts: &mut [i64],
 ) -> KeptFed
-    ensures { λ r. ⌜ FileFed file (now (part .entry)) (record { held = kept (now (submarket .entry)) (now (number .entry)) (now (guarantee .entry)) (now (loss .entry)) (now (availability .entry)) (now (profile .entry)) (now (allotted .entry)) (now (accounts .entry)); line = now (line .entry); figures = now (figures .entry); allotment = now (allotment .entry) }) r (record { held = kept (now (submarket .exit)) (now (number .exit)) (now (guarantee .exit)) (now (loss .exit)) (now (availability .exit)) (now (profile .exit)) (now (allotted .exit)) (now (accounts .exit)); line = now (line .exit); figures = now (figures .exit); allotment = now (allotment .exit) }) ⌝ }
+    ensures { λ r. ⌜ FileFed file (now (part .entry)) (record { held = kept (now (columns .entry)) (now (profile .entry)) (now (allotted .entry)) (now (accounts .entry)); line = now (line .entry) }) r (record { held = kept (now (columns .exit)) (now (profile .exit)) (now (allotted .exit)) (now (accounts .exit)); line = now (line .exit) }) ⌝ }
 {
-    kept_file::feed_kept(
-        file,
-        part,
-        line,
-        figures,
-        submarket,
-        number,
-        guarantee,
-        loss,
-        availability,
-        profile,
-        allotment,
-        allotted,
-        accounts,
-    )
+    kept_file::feed_kept(file, part, line, columns, profile, allotted, accounts)
 }
 
 // kept_file::finish_kept.
@@ -56,31 +36,13 @@ pub extern "C" fn iolwarch_file_feed(
 pub extern "C" fn iolwarch_file_finish(
     file: KeptFile,
     line: &[u8],
-    figures: &mut [u64],
-    submarket: &[u64],
-    number: &[u64],
-    guarantee: &[u64],
-    loss: &[u64],
-    availability: &[u64],
+    columns: &[u64],
     profile: &[u64],
     allotted: &[u64],
     accounts: &[i64],
     text: &mut [u8],
 ) -> KeptFinished
-    ensures { λ r. ⌜ FinishedAny (fileOf file) (record { held = kept (now (submarket .entry)) (now (number .entry)) (now (guarantee .entry)) (now (loss .entry)) (now (availability .entry)) (now (profile .entry)) (now (allotted .entry)) (now (accounts .entry)); line = now (line .entry); figures = now (figures .entry); text = now (text .entry) }) (record { number = r .number; length = r .length }) (record { held = kept (now (submarket .entry)) (now (number .entry)) (now (guarantee .entry)) (now (loss .entry)) (now (availability .entry)) (now (profile .entry)) (now (allotted .entry)) (now (accounts .entry)); line = now (line .entry); figures = now (figures .exit); text = now (text .exit) }) ⌝ }
+    ensures { λ r. ⌜ FinishedAny (fileOf file) (record { held = kept (now (columns .entry)) (now (profile .entry)) (now (allotted .entry)) (now (accounts .entry)); line = now (line .entry); text = now (text .entry) }) (record { number = r .number; length = r .length }) (record { held = kept (now (columns .entry)) (now (profile .entry)) (now (allotted .entry)) (now (accounts .entry)); line = now (line .entry); text = now (text .exit) }) ⌝ }
 {
-    kept_file::finish_kept(
-        file,
-        line,
-        figures,
-        submarket,
-        number,
-        guarantee,
-        loss,
-        availability,
-        profile,
-        allotted,
-        accounts,
-        text,
-    )
+    kept_file::finish_kept(file, line, columns, profile, allotted, accounts, text)
 }

@@ -10,9 +10,9 @@ use Rattle.file_lines.specs.declared.MonthFile.{MonthFile}
 use Rattle.file_lines.specs.File.{settledFile}
 use Rattle.month_file.specs.Bytes.{finished}
 use Rattle.file_lines.specs.State.{Kept, Valid}
-use Rattle.month_file.specs.Machine.{readingOf, WorkLists, Fresh, Fed}
+use Rattle.month_file.specs.Machine.{readingOf, Fresh, Fed}
 use Rattle.month_file.specs.Run.{Place, Feeds, none, more}
-use Rattle.month_file.proofs.Parts.{Alike, alike-self, alike-more, room-alike}
+use Rattle.month_file.proofs.Parts.{Alike, alike-self, alike-more}
 use Rattle.month_file.proofs.Run as run
 use Rattle.settle_month.specs.Input.{place, Taken, Settled, unread, written}
 
@@ -27,25 +27,24 @@ feeds-more none f = more f none
 feeds-more (more g r) f = more g (feeds-more r f)
 
 -- a loop that reads and feeds
-pub record Taking (part₀ line₀ figures₀ allotment₀ : List ℕ) (k₀ : Kept) (f₀ : MonthFile) (part line figures allotment : List ℕ) (k : Kept) (f : MonthFile) : Type 0 where
+pub record Taking (part₀ line₀ : List ℕ) (k₀ : Kept) (f₀ : MonthFile) (part line : List ℕ) (k : Kept) (f : MonthFile) : Type 0 where
   pub same : length part ≡ length part₀
-  pub room : WorkLists line figures allotment
-  pub alike : Alike line₀ figures₀ allotment₀ k₀ line figures allotment k
+  pub room : 8192 ≤ length line
+  pub alike : Alike line₀ k₀ line k
   pub valid : Valid f k
   pub taken : Taken (place f₀ k₀ line₀) (place f k line)
 
-module _ {part₀ line₀ figures₀ allotment₀ : List ℕ} {k₀ : Kept} {f₀ : MonthFile} where
-  pub taking : WorkLists line₀ figures₀ allotment₀ → Valid f₀ k₀ → Taking part₀ line₀ figures₀ allotment₀ k₀ f₀ part₀ line₀ figures₀ allotment₀ k₀ f₀
+module _ {part₀ line₀ : List ℕ} {k₀ : Kept} {f₀ : MonthFile} where
+  pub taking : 8192 ≤ length line₀ → Valid f₀ k₀ → Taking part₀ line₀ k₀ f₀ part₀ line₀ k₀ f₀
   taking w v = record { same = refl; room = w; alike = alike-self; valid = v; taken = record { parts = []; fed = none } }
 
-  module _ {part line figures allotment : List ℕ} {k : Kept} {f : MonthFile} (c : Taking part₀ line₀ figures₀ allotment₀ k₀ f₀ part line figures allotment k f) where
-    pub taking-more : {part₁ line₁ figures₁ allotment₁ : List ℕ} {k₁ : Kept} {f₁ : MonthFile} {bytes : List ℕ} → length part₁ ≡ length part
-        → Fed f k line bytes f₁ k₁ line₁ → Alike line figures allotment k line₁ figures₁ allotment₁ k₁
-        → Taking part₀ line₀ figures₀ allotment₀ k₀ f₀ part₁ line₁ figures₁ allotment₁ k₁ f₁
+  module _ {part line : List ℕ} {k : Kept} {f : MonthFile} (c : Taking part₀ line₀ k₀ f₀ part line k f) where
+    pub taking-more : {part₁ line₁ : List ℕ} {k₁ : Kept} {f₁ : MonthFile} {bytes : List ℕ} → length part₁ ≡ length part
+        → Fed f k line bytes f₁ k₁ line₁ → Alike line k line₁ k₁ → Taking part₀ line₀ k₀ f₀ part₁ line₁ k₁ f₁
     taking-more {bytes = bytes} l d s =
         record {
           same = l ∙ c .same;
-          room = room-alike (c .room) s;
+          room = omega (arith, c .room, s .bytes);
           alike = alike-more (c .alike) s;
           valid = d .valid;
           taken = record { parts = c .taken .parts ++ (bytes ∷ []); fed = feeds-more (c .taken .fed) d };

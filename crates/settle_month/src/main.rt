@@ -13,7 +13,7 @@ ghost use Prim.Native.Nat.{_*_, _+_, _≤_};
 ghost use lib.ListN.{length, take};
 ghost use Rattle.io.specs.Counts.{clamped};
 ghost use Rattle.file_lines.specs.State.{kept, Lent, Valid};
-ghost use Rattle.month_file.specs.Machine.{WorkLists, Fed};
+ghost use Rattle.month_file.specs.Machine.{Fed};
 ghost use Rattle.settle_month.specs.Input.{place, Taken, Settled};
 
 // What was read: the state, and whether the input came to its end.
@@ -28,37 +28,17 @@ fn take_part(
     part: &[u8],
     got: isize,
     line: &mut [u8],
-    figures: &mut [u64],
-    submarket: &mut [u64],
-    number: &mut [u64],
-    guarantee: &mut [u64],
-    loss: &mut [u64],
-    availability: &mut [u64],
+    columns: &mut [u64],
     profile: &mut [u64],
-    allotment: &mut [u64],
     allotted: &mut [u64],
     accounts: &mut [i64],
 ) -> MonthFile
-    requires { ⌜ WorkLists (now line) (now figures) (now allotment) ⌝ }
-    requires { ⌜ Valid file (kept (now submarket) (now number) (now guarantee) (now loss) (now availability) (now profile) (now allotted) (now accounts)) ⌝ }
-    ensures { λ r. ⌜ Fed file (kept (now (submarket .entry)) (now (number .entry)) (now (guarantee .entry)) (now (loss .entry)) (now (availability .entry)) (now (profile .entry)) (now (allotted .entry)) (now (accounts .entry))) (now (line .entry)) (take (clamped got (length (now (part .entry)))) (now (part .entry))) r (kept (now (submarket .exit)) (now (number .exit)) (now (guarantee .exit)) (now (loss .exit)) (now (availability .exit)) (now (profile .exit)) (now (allotted .exit)) (now (accounts .exit))) (now (line .exit)) ⌝ }
+    requires { ⌜ 8192 ≤ length (now line) ⌝ }
+    requires { ⌜ Valid file (kept (now columns) (now profile) (now allotted) (now accounts)) ⌝ }
+    ensures { λ r. ⌜ Fed file (kept (now (columns .entry)) (now (profile .entry)) (now (allotted .entry)) (now (accounts .entry))) (now (line .entry)) (take (clamped got (length (now (part .entry)))) (now (part .entry))) r (kept (now (columns .exit)) (now (profile .exit)) (now (allotted .exit)) (now (accounts .exit))) (now (line .exit)) ⌝ }
 {
     let n = io::count(got, part);
-    feed(
-        file,
-        &part[..n],
-        line,
-        figures,
-        submarket,
-        number,
-        guarantee,
-        loss,
-        availability,
-        profile,
-        allotment,
-        allotted,
-        accounts,
-    )
+    feed(file, &part[..n], line, columns, profile, allotted, accounts)
 }
 
 // Feeds what standard input holds, part by part, to its end. No contract says where `whole` is true: `libc::read` alone knows of the end. Nothing
@@ -67,59 +47,28 @@ fn take_input(
     file: MonthFile,
     part: &mut [u8],
     line: &mut [u8],
-    figures: &mut [u64],
-    submarket: &mut [u64],
-    number: &mut [u64],
-    guarantee: &mut [u64],
-    loss: &mut [u64],
-    availability: &mut [u64],
+    columns: &mut [u64],
     profile: &mut [u64],
-    allotment: &mut [u64],
     allotted: &mut [u64],
     accounts: &mut [i64],
 ) -> Input
-    requires { ⌜ WorkLists (now line) (now figures) (now allotment) ⌝ }
-    requires { ⌜ Valid file (kept (now submarket) (now number) (now guarantee) (now loss) (now availability) (now profile) (now allotted) (now accounts)) ⌝ }
-    ensures { λ r. ⌜ Taken (place file (kept (now (submarket .entry)) (now (number .entry)) (now (guarantee .entry)) (now (loss .entry)) (now (availability .entry)) (now (profile .entry)) (now (allotted .entry)) (now (accounts .entry))) (now (line .entry))) (place (r .file) (kept (now (submarket .exit)) (now (number .exit)) (now (guarantee .exit)) (now (loss .exit)) (now (availability .exit)) (now (profile .exit)) (now (allotted .exit)) (now (accounts .exit))) (now (line .exit))) ⌝ }
+    requires { ⌜ 8192 ≤ length (now line) ⌝ }
+    requires { ⌜ Valid file (kept (now columns) (now profile) (now allotted) (now accounts)) ⌝ }
+    ensures { λ r. ⌜ Taken (place file (kept (now (columns .entry)) (now (profile .entry)) (now (allotted .entry)) (now (accounts .entry))) (now (line .entry))) (place (r .file) (kept (now (columns .exit)) (now (profile .exit)) (now (allotted .exit)) (now (accounts .exit))) (now (line .exit))) ⌝ }
 {
-    let mut f = file;
+    let mut file = file;
     let mut turns = u64::MAX;
     while turns > 0 {
         let got = libc::read(STDIN_FILENO, part);
-        if got < 0 {
-            return Input {
-                file: f,
-                whole: false,
-            };
+        if got <= 0 {
+            let whole = got == 0;
+            return Input { file, whole };
         }
-        if got == 0 {
-            return Input {
-                file: f,
-                whole: true,
-            };
-        }
-        f = take_part(
-            f,
-            part,
-            got,
-            line,
-            figures,
-            submarket,
-            number,
-            guarantee,
-            loss,
-            availability,
-            profile,
-            allotment,
-            allotted,
-            accounts,
-        );
+        file = take_part(file, part, got, line, columns, profile, allotted, accounts);
         turns -= 1;
     }
-    Input {
-        file: f,
-        whole: false,
-    }
+    let whole = false;
+    Input { file, whole }
 }
 
 // Settles the file on standard input: what is to be printed stands at the front of the text. Answers its length, or 0 where the input cannot be
@@ -127,56 +76,23 @@ fn take_input(
 fn settle_input(
     part: &mut [u8],
     line: &mut [u8],
-    figures: &mut [u64],
-    submarket: &mut [u64],
-    number: &mut [u64],
-    guarantee: &mut [u64],
-    loss: &mut [u64],
-    availability: &mut [u64],
+    columns: &mut [u64],
     profile: &mut [u64],
-    allotment: &mut [u64],
     allotted: &mut [u64],
     accounts: &mut [i64],
     text: &mut [u8],
 ) -> usize
-    requires { ⌜ WorkLists (now line) (now figures) (now allotment) × (128 * 512 + 128 ≤ length (now text)) ⌝ }
-    requires { ⌜ Lent (kept (now submarket) (now number) (now guarantee) (now loss) (now availability) (now profile) (now allotted) (now accounts)) ⌝ }
+    requires { ⌜ (8192 ≤ length (now line)) × (128 * 512 + 128 ≤ length (now text)) ⌝ }
+    requires { ⌜ Lent (kept (now columns) (now profile) (now allotted) (now accounts)) ⌝ }
     ensures { λ r. ⌜ Settled (now (text .entry)) r (now (text .exit)) ⌝ }
 {
     let file = fresh();
-    let input = take_input(
-        file,
-        part,
-        line,
-        figures,
-        submarket,
-        number,
-        guarantee,
-        loss,
-        availability,
-        profile,
-        allotment,
-        allotted,
-        accounts,
-    );
+    let input = take_input(file, part, line, columns, profile, allotted, accounts);
     if !input.whole {
         return 0;
     }
     let end = input.file;
-    finish(
-        end,
-        line,
-        figures,
-        submarket,
-        number,
-        guarantee,
-        loss,
-        availability,
-        profile,
-        allotted,
-        accounts,
-        text,
-    )
+    finish(end, line, columns, profile, allotted, accounts, text)
 }
 
 // Writes a line to standard error. Where that fails too, nobody can be told.
@@ -187,28 +103,16 @@ fn tell(line: &[u8]) {
 fn main() {
     let mut part = [0u8; 65536];
     let mut line = [0u8; 8192];
-    let mut figures = [0u64; 513];
-    let mut submarket = [0u64; 512];
-    let mut number = [0u64; 512];
-    let mut guarantee = [0u64; 512];
-    let mut loss = [0u64; 512];
-    let mut availability = [0u64; 512];
+    let mut columns = [0u64; 2560];
     let mut profile = [0u64; 744];
-    let mut allotment = [0u64; 2048];
     let mut allotted = [0u64; 2048];
     let mut accounts = [0i64; 1024];
     let mut text = [0u8; 65664];
     let length = settle_input(
         &mut part,
         &mut line,
-        &mut figures,
-        &mut submarket,
-        &mut number,
-        &mut guarantee,
-        &mut loss,
-        &mut availability,
+        &mut columns,
         &mut profile,
-        &mut allotment,
         &mut allotted,
         &mut accounts,
         &mut text,

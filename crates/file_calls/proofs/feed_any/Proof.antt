@@ -1,9 +1,6 @@
 -- `file_calls::feed_any` meets its contract. Assumes nothing.
 use mathlib.Core.Path.{refl}
-use native.Mathlib.Omega.{arith}
 use borrow.Author.Needs.{needs}
-use lib.Seq.{length-take-le}
-use Rattle.file_lines.proofs.Opened.{front-count}
 use Rattle.file_calls.proofs.Checked.{feed-good, feed-refused, feed-taken}
 use Rattle.file_calls.proofs.feed_any.Statement.{statement}
 use Rattle.file_calls.proofs.feed_any.Tie as tie
@@ -18,25 +15,11 @@ feed-any-spec =
     (λ c. refl)  -- same-length-3
     (λ c. refl)  -- same-length-4
     (λ c. refl)  -- same-length-5
-    (λ c. refl)  -- same-length-6
-    (λ c. refl)  -- same-length-7
-    (λ c. refl)  -- same-length-8
-    (λ c. refl)  -- same-length-9
-    (λ c. refl)  -- same-length-10
-    (λ c. refl)  -- same-length-11
     (λ c. feed-refused (c .before .feed-number .ensures) (c .if1 .taken))  -- returns
-    (λ c. let g = feed-good (c .before .before .feed-number .ensures) (c .before .if1 .left) in omega (arith, g .0 .places))  -- slice-relend-prefix-feed
-    (λ c. let g = feed-good (c .before .before .before .feed-number .ensures) (c .before .before .if1 .left) in front-count 513 (c .before .before .before .before .before .before .before .before .before .before .before .before .before .before .before .before .before .before .before .before .before .before .before .before .before .before .args .figures .now) (g .0 .places))  -- slice-aggregate-feed
-    (λ c κs. let g = feed-good (c .before .before .before .before .before .before .before .before .before .before .before .before .feed-number .ensures) (c .before .before .before .before .before .before .before .before .before .before .before .if1 .left) in (record { bytes = g .0 .bytes; places = length-take-le 513 (c .before .before .before .before .before .before .before .before .before .before .before .before .before .before .before .before .before .before .before .before .before .before .before .before .before .before .before .before .before .before .before .before .before .before .before .args .figures .now) (g .0 .places); fours = g .0 .fours }, g .1))  -- feed-requires
-    (λ c. c .before .before .before .before .before .before .before .before .before .before .before .before .before .before .before .before .before .before .before .before .before .feed .kept .1 .1 .0)  -- same-length-12
-    (λ c. search needs)  -- same-length-13
-    (λ c. c .before .before .before .before .before .before .before .before .before .before .before .before .before .before .before .before .before .before .before .before .before .feed .kept .1 .1 .1 .1 .0)  -- same-length-14
-    (λ c. c .before .before .before .before .before .before .before .before .before .before .before .before .before .before .before .before .before .before .before .before .before .feed .kept .1 .1 .1 .1 .1 .0)  -- same-length-15
-    (λ c. c .before .before .before .before .before .before .before .before .before .before .before .before .before .before .before .before .before .before .before .before .before .feed .kept .1 .1 .1 .1 .1 .1 .0)  -- same-length-16
-    (λ c. c .before .before .before .before .before .before .before .before .before .before .before .before .before .before .before .before .before .before .before .before .before .feed .kept .1 .1 .1 .1 .1 .1 .1 .0)  -- same-length-17
-    (λ c. c .before .before .before .before .before .before .before .before .before .before .before .before .before .before .before .before .before .before .before .before .before .feed .kept .1 .1 .1 .1 .1 .1 .1 .1 .0)  -- same-length-18
-    (λ c. c .before .before .before .before .before .before .before .before .before .before .before .before .before .before .before .before .before .before .before .before .before .feed .kept .1 .1 .1 .1 .1 .1 .1 .1 .1 .0)  -- same-length-19
-    (λ c. c .before .before .before .before .before .before .before .before .before .before .before .before .before .before .before .before .before .before .before .before .before .feed .kept .1 .1 .1 .1 .1 .1 .1 .1 .1 .1 .0)  -- same-length-20
-    (λ c. c .before .before .before .before .before .before .before .before .before .before .before .before .before .before .before .before .before .before .before .before .before .feed .kept .1 .1 .1 .1 .1 .1 .1 .1 .1 .1 .1 .0)  -- same-length-21
-    (λ c. c .before .before .before .before .before .before .before .before .before .before .before .before .before .before .before .before .before .before .before .before .before .feed .kept .1 .1 .1 .1 .1 .1 .1 .1 .1 .1 .1 .1 .0)  -- same-length-22
-    (λ c. feed-taken _ _ _ _ _ (c .before .before .before .before .before .before .before .before .before .before .before .before .before .before .before .before .before .before .before .before .before .before .before .before .before .before .before .before .before .before .before .before .before .before .feed-number .ensures) (c .before .before .before .before .before .before .before .before .before .before .before .before .before .before .before .before .before .before .before .before .before .before .before .before .before .before .before .before .before .before .before .before .before .if1 .left) (c .before .before .before .before .before .before .before .before .before .before .before .before .before .before .before .before .before .before .before .before .before .feed .ensures)))  -- returns-2
+    (λ c κs. let g = feed-good (c .before .before .before .before .before .before .feed-number .ensures) (c .before .before .before .before .before .if1 .left) in (g .0 .bytes, g .1))  -- feed-requires
+    (λ c. c .before .before .before .before .before .before .before .before .before .feed .kept .1 .1 .0)  -- same-length-6
+    (λ c. c .before .before .before .before .before .before .before .before .before .feed .kept .1 .1 .1 .0)  -- same-length-7
+    (λ c. c .before .before .before .before .before .before .before .before .before .feed .kept .1 .1 .1 .1 .0)  -- same-length-8
+    (λ c. c .before .before .before .before .before .before .before .before .before .feed .kept .1 .1 .1 .1 .1 .0)  -- same-length-9
+    (λ c. c .before .before .before .before .before .before .before .before .before .feed .kept .1 .1 .1 .1 .1 .1 .0)  -- same-length-10
+    (λ c. feed-taken _ _ _ _ _ (c .before .before .before .before .before .before .before .before .before .before .before .before .before .before .before .before .feed-number .ensures) (c .before .before .before .before .before .before .before .before .before .before .before .before .before .before .before .if1 .left) (c .before .before .before .before .before .before .before .before .before .feed .ensures)))  -- returns-2

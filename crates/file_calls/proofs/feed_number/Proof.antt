@@ -11,11 +11,8 @@ feed-number-spec =
     tie.close
     (tie.spec
     (λ c. def.FeedNumber.short (λ p. omega (arith, p .bytes, c .if1 .taken)))  -- returns
-    (λ c. def.FeedNumber.short (λ p. omega (arith, p .places, c .if2 .taken)))  -- returns-2
-    (λ c. search needs)  -- mul-if3
-    (λ c. def.FeedNumber.short (λ p. omega (arith, p .fours, c .if3 .taken)))  -- returns-3
     (λ c κs. search needs)  -- are-lent-requires
-    (λ c. def.FeedNumber.short (λ p. denied _ (c .before .are-lent .ensures) (c .if4 .taken) (p .lent)))  -- returns-4
-    (λ c κs. granted _ (c .before .are-lent .ensures) (c .if4 .left))  -- is-valid-requires
-    (λ c. def.FeedNumber.unknown (record { bytes = c .before .before .before .before .before .before .if1 .left; places = c .before .before .before .before .before .if2 .left; fours = c .before .before .before .before .if3 .left; lent = granted _ (c .before .before .before .are-lent .ensures) (c .before .before .if4 .left) }) (denied _ (c .before .is-valid .ensures) (c .if5 .taken)))  -- returns-5
-    (λ c. def.FeedNumber.good (record { bytes = c .before .before .before .before .before .before .if1 .left; places = c .before .before .before .before .before .if2 .left; fours = c .before .before .before .before .if3 .left; lent = granted _ (c .before .before .before .are-lent .ensures) (c .before .before .if4 .left) }) (granted _ (c .before .is-valid .ensures) (c .if5 .left))))  -- returns-6
+    (λ c. def.FeedNumber.short (λ p. denied _ (c .before .are-lent .ensures) (c .if2 .taken) (p .lent)))  -- returns-2
+    (λ c κs. granted _ (c .before .are-lent .ensures) (c .if2 .left))  -- is-valid-requires
+    (λ c. def.FeedNumber.unknown (record { bytes = c .before .before .before .before .if1 .left; lent = granted _ (c .before .before .before .are-lent .ensures) (c .before .before .if2 .left) }) (denied _ (c .before .is-valid .ensures) (c .if3 .taken)))  -- returns-3
+    (λ c. def.FeedNumber.good (record { bytes = c .before .before .before .before .if1 .left; lent = granted _ (c .before .before .before .are-lent .ensures) (c .before .before .if2 .left) }) (granted _ (c .before .is-valid .ensures) (c .if3 .left))))  -- returns-4

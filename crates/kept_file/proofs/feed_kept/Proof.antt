@@ -10,15 +10,9 @@ feed-kept-spec =
     (λ c κs. tt)  -- file-of-requires
     (λ c κs. tt)  -- feed-any-requires
     (λ c κs. tt)  -- file-back-requires
-    (λ c. c .before .before .before .before .before .before .before .before .before .before .before .before .before .before .before .before .before .before .before .before .before .before .before .feed-any .kept .1 .1 .0)  -- same-length
-    (λ c. c .before .before .before .before .before .before .before .before .before .before .before .before .before .before .before .before .before .before .before .before .before .before .before .feed-any .kept .1 .1 .1 .0)  -- same-length-2
-    (λ c. c .before .before .before .before .before .before .before .before .before .before .before .before .before .before .before .before .before .before .before .before .before .before .before .feed-any .kept .1 .1 .1 .1 .0)  -- same-length-3
-    (λ c. c .before .before .before .before .before .before .before .before .before .before .before .before .before .before .before .before .before .before .before .before .before .before .before .feed-any .kept .1 .1 .1 .1 .1 .0)  -- same-length-4
-    (λ c. c .before .before .before .before .before .before .before .before .before .before .before .before .before .before .before .before .before .before .before .before .before .before .before .feed-any .kept .1 .1 .1 .1 .1 .1 .0)  -- same-length-5
-    (λ c. c .before .before .before .before .before .before .before .before .before .before .before .before .before .before .before .before .before .before .before .before .before .before .before .feed-any .kept .1 .1 .1 .1 .1 .1 .1 .0)  -- same-length-6
-    (λ c. c .before .before .before .before .before .before .before .before .before .before .before .before .before .before .before .before .before .before .before .before .before .before .before .feed-any .kept .1 .1 .1 .1 .1 .1 .1 .1 .0)  -- same-length-7
-    (λ c. c .before .before .before .before .before .before .before .before .before .before .before .before .before .before .before .before .before .before .before .before .before .before .before .feed-any .kept .1 .1 .1 .1 .1 .1 .1 .1 .1 .0)  -- same-length-8
-    (λ c. c .before .before .before .before .before .before .before .before .before .before .before .before .before .before .before .before .before .before .before .before .before .before .before .feed-any .kept .1 .1 .1 .1 .1 .1 .1 .1 .1 .1 .0)  -- same-length-9
-    (λ c. c .before .before .before .before .before .before .before .before .before .before .before .before .before .before .before .before .before .before .before .before .before .before .before .feed-any .kept .1 .1 .1 .1 .1 .1 .1 .1 .1 .1 .1 .0)  -- same-length-10
-    (λ c. c .before .before .before .before .before .before .before .before .before .before .before .before .before .before .before .before .before .before .before .before .before .before .before .feed-any .kept .1 .1 .1 .1 .1 .1 .1 .1 .1 .1 .1 .1 .0)  -- same-length-11
-    (λ c. feeds _ _ _ _ (c .before .before .before .before .before .before .before .before .before .before .before .before .before .before .before .before .before .before .before .before .before .before .before .before .before .before .before .before .before .before .before .before .before .before .before .file-of .ensures) (c .before .before .before .before .before .before .before .before .before .before .before .before .before .before .before .before .before .before .before .before .before .before .before .feed-any .ensures) (c .file-back .ensures)))  -- returns
+    (λ c. c .before .before .before .before .before .before .before .before .before .before .before .feed-any .kept .1 .1 .0)  -- same-length
+    (λ c. c .before .before .before .before .before .before .before .before .before .before .before .feed-any .kept .1 .1 .1 .0)  -- same-length-2
+    (λ c. c .before .before .before .before .before .before .before .before .before .before .before .feed-any .kept .1 .1 .1 .1 .0)  -- same-length-3
+    (λ c. c .before .before .before .before .before .before .before .before .before .before .before .feed-any .kept .1 .1 .1 .1 .1 .0)  -- same-length-4
+    (λ c. c .before .before .before .before .before .before .before .before .before .before .before .feed-any .kept .1 .1 .1 .1 .1 .1 .0)  -- same-length-5
+    (λ c. feeds _ _ _ _ (c .before .before .before .before .before .before .before .before .before .before .before .before .before .before .before .before .before .file-of .ensures) (c .before .before .before .before .before .before .before .before .before .before .before .feed-any .ensures) (c .file-back .ensures)))  -- returns

@@ -9,6 +9,5 @@ finish-kept-spec =
     (tie.spec
     (λ c κs. tt)  -- file-of-requires
     (λ c κs. tt)  -- finish-any-requires
-    (λ c. c .before .before .before .before .finish-any .kept .1 .1 .0)  -- same-length
-    (λ c. c .before .before .before .before .finish-any .kept .1 .1 .1 .1 .1 .1 .1 .1 .1 .1 .1 .0)  -- same-length-2
-    (λ c. finishes _ _ _ (c .before .before .before .before .before .before .before .file-of .ensures) (c .before .before .before .before .finish-any .ensures)))  -- returns
+    (λ c. c .before .before .finish-any .kept .1 .1 .1 .1 .1 .1 .0)  -- same-length
+    (λ c. finishes _ _ _ (c .before .before .before .before .file-of .ensures) (c .before .before .finish-any .ensures)))  -- returns

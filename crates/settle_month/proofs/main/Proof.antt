@@ -16,18 +16,12 @@ main-spec =
     (λ c. search needs)  -- slice-aggregate-settle-input-5
     (λ c. search needs)  -- slice-aggregate-settle-input-6
     (λ c. search needs)  -- slice-aggregate-settle-input-7
-    (λ c. search needs)  -- slice-aggregate-settle-input-8
-    (λ c. search needs)  -- slice-aggregate-settle-input-9
-    (λ c. search needs)  -- slice-aggregate-settle-input-10
-    (λ c. search needs)  -- slice-aggregate-settle-input-11
-    (λ c. search needs)  -- slice-aggregate-settle-input-12
-    (λ c. search needs)  -- slice-aggregate-settle-input-13
     (λ c κs. search needs)  -- settle-input-requires
     (λ c. search needs)  -- slice-aggregate-tell
     (λ c κs. search needs)  -- tell-requires
     (λ c. search needs)  -- returns
-    (λ c. omega (arith, settled-fits (c .before .before .before .before .before .before .before .before .before .before .before .before .before .before .settle-input .ensures)))  -- array-share-prefix-text
-    (λ c. settled-front (c .before .before .before .before .before .before .before .before .before .before .before .before .before .before .before .settle-input .ensures))  -- slice-aggregate-write-all
+    (λ c. omega (arith, settled-fits (c .before .before .before .before .before .before .before .before .settle-input .ensures)))  -- array-share-prefix-text
+    (λ c. settled-front (c .before .before .before .before .before .before .before .before .before .settle-input .ensures))  -- slice-aggregate-write-all
     (λ c κs. search needs)  -- write-all-requires
     (λ c. search needs)  -- slice-aggregate-tell-2
     (λ c κs. search needs)  -- tell-requires-2

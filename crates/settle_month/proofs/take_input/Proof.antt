@@ -8,11 +8,11 @@ use Rattle.settle_month.proofs.take_input.Statement.{statement}
 use Rattle.settle_month.proofs.take_input.Tie as tie
 
 abbrev Inv-loop : tie.InvT-loop
-Inv-loop part₀ line₀ figures₀ submarket₀ number₀ guarantee₀ loss₀ availability₀ profile₀ allotment₀ allotted₀ accounts₀ f₀ turns₀ part line figures submarket number guarantee loss availability profile allotment allotted accounts f turns =
-    Taking part₀ line₀ figures₀ allotment₀ (kept submarket₀ number₀ guarantee₀ loss₀ availability₀ profile₀ allotted₀ accounts₀) f₀ part line figures allotment (kept submarket number guarantee loss availability profile allotted accounts) f
+Inv-loop part₀ line₀ columns₀ profile₀ allotted₀ accounts₀ f₀ turns₀ part line columns profile allotted accounts f turns =
+    Taking part₀ line₀ (kept columns₀ profile₀ allotted₀ accounts₀) f₀ part line (kept columns profile allotted accounts) f
 
 abbrev μ-loop : tie.MeasureT-loop
-μ-loop part₀ line₀ figures₀ submarket₀ number₀ guarantee₀ loss₀ availability₀ profile₀ allotment₀ allotted₀ accounts₀ f₀ turns₀ part line figures submarket number guarantee loss availability profile allotment allotted accounts f turns = turns
+μ-loop part₀ line₀ columns₀ profile₀ allotted₀ accounts₀ f₀ turns₀ part line columns profile allotted accounts f turns = turns
 
 pub take-input-spec : {M : Type 1} → statement M
 take-input-spec =
@@ -20,48 +20,23 @@ take-input-spec =
     (tie.spec
     Inv-loop  -- Inv-loop
     μ-loop  -- μ-loop
-    (λ c. let s = c .before .before .before .before .before .before .before .before .before .before .before in taking (s .pre .0) (s .pre .1))  -- loop-holds
+    (λ c. let s = c .before .before .before .before .before in taking (s .pre .0) (s .pre .1))  -- loop-holds
     (λ c κs. search needs)  -- read-requires
     (λ c. c .before .before .before .read .kept .1 .0 ∙ c .before .before .before .before .before .before .loop .inv .same)  -- same-length
     (λ c. c .before .before .before .before .before .before .loop .inv .alike .bytes)  -- same-length-2
-    (λ c. c .before .before .before .before .before .before .loop .inv .alike .places)  -- same-length-3
-    (λ c. c .before .before .before .before .before .before .loop .inv .alike .submarket)  -- same-length-4
-    (λ c. c .before .before .before .before .before .before .loop .inv .alike .number)  -- same-length-5
-    (λ c. c .before .before .before .before .before .before .loop .inv .alike .guarantee)  -- same-length-6
-    (λ c. c .before .before .before .before .before .before .loop .inv .alike .loss)  -- same-length-7
-    (λ c. c .before .before .before .before .before .before .loop .inv .alike .availability)  -- same-length-8
-    (λ c. c .before .before .before .before .before .before .loop .inv .alike .profile)  -- same-length-9
-    (λ c. c .before .before .before .before .before .before .loop .inv .alike .fours)  -- same-length-10
-    (λ c. c .before .before .before .before .before .before .loop .inv .alike .allotted)  -- same-length-11
-    (λ c. c .before .before .before .before .before .before .loop .inv .alike .accounts)  -- same-length-12
+    (λ c. c .before .before .before .before .before .before .loop .inv .alike .columns)  -- same-length-3
+    (λ c. c .before .before .before .before .before .before .loop .inv .alike .profile)  -- same-length-4
+    (λ c. c .before .before .before .before .before .before .loop .inv .alike .allotted)  -- same-length-5
+    (λ c. c .before .before .before .before .before .before .loop .inv .alike .accounts)  -- same-length-6
     (λ c. c .before .before .before .before .before .before .loop .inv .taken)  -- returns
-    (λ c. c .before .before .before .before .read .kept .1 .0 ∙ c .before .before .before .before .before .before .before .loop .inv .same)  -- same-length-13
-    (λ c. c .before .before .before .before .before .before .before .loop .inv .alike .bytes)  -- same-length-14
-    (λ c. c .before .before .before .before .before .before .before .loop .inv .alike .places)  -- same-length-15
-    (λ c. c .before .before .before .before .before .before .before .loop .inv .alike .submarket)  -- same-length-16
-    (λ c. c .before .before .before .before .before .before .before .loop .inv .alike .number)  -- same-length-17
-    (λ c. c .before .before .before .before .before .before .before .loop .inv .alike .guarantee)  -- same-length-18
-    (λ c. c .before .before .before .before .before .before .before .loop .inv .alike .loss)  -- same-length-19
-    (λ c. c .before .before .before .before .before .before .before .loop .inv .alike .availability)  -- same-length-20
-    (λ c. c .before .before .before .before .before .before .before .loop .inv .alike .profile)  -- same-length-21
-    (λ c. c .before .before .before .before .before .before .before .loop .inv .alike .fours)  -- same-length-22
-    (λ c. c .before .before .before .before .before .before .before .loop .inv .alike .allotted)  -- same-length-23
-    (λ c. c .before .before .before .before .before .before .before .loop .inv .alike .accounts)  -- same-length-24
-    (λ c. c .before .before .before .before .before .before .before .loop .inv .taken)  -- returns-2
-    (λ c κs. let i = c .before .before .before .before .before .before .before .before .before .before .before .before .before .before .before .before .before .before .before .loop .inv in (i .room, i .valid))  -- take-part-requires
-    (λ c. omega (arith, c .before .before .before .before .before .before .before .before .before .before .before .before .before .before .before .before .before .before .before .before .before .before .before .before .before .before .before .before .before .before .before .before .before .before .before .before .before .before .before .before .loop-test .taken))  -- sub-turns
-    (λ c. omega (arith, c .before .before .before .before .before .before .before .before .before .before .before .before .before .before .before .before .before .before .before .before .before .before .before .before .before .before .before .before .before .before .before .before .before .before .before .before .before .before .before .before .loop-test .taken))  -- loop-less
-    (λ c. let w = c .before .before .before .before .before .before .before .before .before .before .before .before .before .before .before .before .before .before .before .before .before .take-part in taking-more (c .before .before .before .before .before .before .before .before .before .before .before .before .before .before .before .before .before .before .before .before .before .before .before .before .before .before .before .before .before .before .before .before .before .before .before .before .before .before .before .before .before .loop .inv) (c .before .before .before .before .before .before .before .before .before .before .before .before .before .before .before .before .before .before .before .before .before .before .before .before .before .before .before .before .before .before .before .before .before .before .before .before .before .before .read .kept .1 .0) (w .ensures) (record { bytes = w .kept .1 .1 .1 .0; places = w .kept .1 .1 .1 .1 .0; submarket = w .kept .1 .1 .1 .1 .1 .0; number = w .kept .1 .1 .1 .1 .1 .1 .0; guarantee = w .kept .1 .1 .1 .1 .1 .1 .1 .0; loss = w .kept .1 .1 .1 .1 .1 .1 .1 .1 .0; availability = w .kept .1 .1 .1 .1 .1 .1 .1 .1 .1 .0; profile = w .kept .1 .1 .1 .1 .1 .1 .1 .1 .1 .1 .0; fours = w .kept .1 .1 .1 .1 .1 .1 .1 .1 .1 .1 .1 .0; allotted = w .kept .1 .1 .1 .1 .1 .1 .1 .1 .1 .1 .1 .1 .0; accounts = w .kept .1 .1 .1 .1 .1 .1 .1 .1 .1 .1 .1 .1 .1 .0 }))  -- loop-again
-    (λ c. c .before .loop .inv .same)  -- same-length-25
-    (λ c. c .before .loop .inv .alike .bytes)  -- same-length-26
-    (λ c. c .before .loop .inv .alike .places)  -- same-length-27
-    (λ c. c .before .loop .inv .alike .submarket)  -- same-length-28
-    (λ c. c .before .loop .inv .alike .number)  -- same-length-29
-    (λ c. c .before .loop .inv .alike .guarantee)  -- same-length-30
-    (λ c. c .before .loop .inv .alike .loss)  -- same-length-31
-    (λ c. c .before .loop .inv .alike .availability)  -- same-length-32
-    (λ c. c .before .loop .inv .alike .profile)  -- same-length-33
-    (λ c. c .before .loop .inv .alike .fours)  -- same-length-34
-    (λ c. c .before .loop .inv .alike .allotted)  -- same-length-35
-    (λ c. c .before .loop .inv .alike .accounts)  -- same-length-36
-    (λ c. c .before .loop .inv .taken))  -- returns-3
+    (λ c κs. let i = c .before .before .before .before .before .before .before .before .before .before .before .before .loop .inv in (i .room, i .valid))  -- take-part-requires
+    (λ c. omega (arith, c .before .before .before .before .before .before .before .before .before .before .before .before .before .before .before .before .before .before .before .before .before .loop-test .taken))  -- sub-turns
+    (λ c. omega (arith, c .before .before .before .before .before .before .before .before .before .before .before .before .before .before .before .before .before .before .before .before .before .loop-test .taken))  -- loop-less
+    (λ c. let w = c .before .before .before .before .before .before .before .before .before .take-part in taking-more (c .before .before .before .before .before .before .before .before .before .before .before .before .before .before .before .before .before .before .before .before .before .before .loop .inv) (c .before .before .before .before .before .before .before .before .before .before .before .before .before .before .before .before .before .before .before .read .kept .1 .0) (w .ensures) (record { bytes = w .kept .1 .1 .1 .0; columns = w .kept .1 .1 .1 .1 .0; profile = w .kept .1 .1 .1 .1 .1 .0; allotted = w .kept .1 .1 .1 .1 .1 .1 .0; accounts = w .kept .1 .1 .1 .1 .1 .1 .1 .0 }))  -- loop-again
+    (λ c. c .before .loop .inv .same)  -- same-length-7
+    (λ c. c .before .loop .inv .alike .bytes)  -- same-length-8
+    (λ c. c .before .loop .inv .alike .columns)  -- same-length-9
+    (λ c. c .before .loop .inv .alike .profile)  -- same-length-10
+    (λ c. c .before .loop .inv .alike .allotted)  -- same-length-11
+    (λ c. c .before .loop .inv .alike .accounts)  -- same-length-12
+    (λ c. c .before .loop .inv .taken))  -- returns-2

@@ -4,18 +4,18 @@ use Prim.Native.Nat.{_*_}
 use native.Mathlib.Omega.{arith}
 use borrow.Author.Needs.{needs}
 use lib.ListN.{length, take}
+use Rattle.records.specs.Records.{rowsOf}
 use Rattle.month.specs.Calls.{OpenEnd, openCall}
 use Rattle.file_lines.specs.declared.MonthFile.{MonthFile}
 use Rattle.file_lines.specs.File as file
-use Rattle.file_lines.specs.State.{Kept, kept, rowsOf, ledgerOf}
-use Rattle.file_lines.proofs.Rows.{equal-rows}
+use Rattle.file_lines.specs.State.{Kept, kept, ledgerOf}
 use Rattle.file_lines.proofs.Opened.{front-count, opening-refused, opening-opened}
 use Rattle.file_lines.proofs.opening.open_month.Statement.{statement}
 use Rattle.file_lines.proofs.opening.open_month.Tie as tie
 
 -- once the month's own call has answered
 abbrev entry : tie.After-open-columns → tie.Start
-entry c = c .before .before .before .before .before .before .before .before .before .before .before .before .before .before .before .before .before
+entry c = c .before .before .before .before .before .before .before .before
 
 abbrev state : tie.After-open-columns → MonthFile
 state c = entry c .args .file
@@ -23,20 +23,20 @@ state c = entry c .args .file
 abbrev lists : tie.After-open-columns → Kept
 lists c =
     let a = entry c .args in
-    kept (a .submarket .now) (a .number .now) (a .guarantee .now) (a .loss .now) (a .availability .now) (a .profile .now) (a .allotted .now) (a .accounts .now)
+    kept (a .columns .now) (a .profile .now) (a .allotted .now) (a .accounts .now)
 
 answers : (c : tie.After-open-columns)
     → _≡_ {A = OpenEnd}
-    (record { answer = c .open-columns .result; ledger = record { allotted = c .open-columns .last .1 .1 .1 .1 .1 .1 .1 .1 .0; accounts = c .open-columns .last .1 .1 .1 .1 .1 .1 .1 .1 .1 .0 } })
-    (openCall file.blank (rowsOf (state c .plants) (lists c)) (take (state c .periods) (lists c .profile)) (state c .tariff) (ledgerOf (state c .plants) (lists c)))
-unfolding rowsOf ledgerOf
-answers c = rw (sym (c .before .before .before .before .before .before .before .before .before .blank .ensures)) (c .open-columns .ensures)
+    (record { answer = c .open-columns .result; ledger = record { allotted = c .open-columns .last .1 .1 .1 .1 .1 .0; accounts = c .open-columns .last .1 .1 .1 .1 .1 .1 .0 } })
+    (openCall file.blank (rowsOf (state c .plants) (lists c .columns)) (take (state c .periods) (lists c .profile)) (state c .tariff) (ledgerOf (state c .plants) (lists c)))
+unfolding ledgerOf
+answers c = rw (sym (c .before .before .before .before .blank .ensures)) (c .open-columns .ensures)
 
-abbrev same : (c : tie.After-open-columns) → length (c .open-columns .last .1 .1 .1 .1 .1 .1 .1 .1 .0) ≡ length (take (4 * state c .plants) (lists c .allotted))
-same c = c .open-columns .kept .1 .1 .1 .1 .1 .1 .1 .1 .0
+abbrev same : (c : tie.After-open-columns) → length (c .open-columns .last .1 .1 .1 .1 .1 .0) ≡ length (take (4 * state c .plants) (lists c .allotted))
+same c = c .open-columns .kept .1 .1 .1 .1 .1 .0
 
-abbrev same-accounts : (c : tie.After-open-columns) → length (c .open-columns .last .1 .1 .1 .1 .1 .1 .1 .1 .1 .0) ≡ length (take (2 * state c .plants) (lists c .accounts))
-same-accounts c = c .open-columns .kept .1 .1 .1 .1 .1 .1 .1 .1 .1 .0
+abbrev same-accounts : (c : tie.After-open-columns) → length (c .open-columns .last .1 .1 .1 .1 .1 .1 .0) ≡ length (take (2 * state c .plants) (lists c .accounts))
+same-accounts c = c .open-columns .kept .1 .1 .1 .1 .1 .1 .0
 
 pub open-month-spec : {M : Type 1} → statement M
 open-month-spec =
@@ -45,22 +45,17 @@ open-month-spec =
     (λ c. search needs)  -- mul-fours
     (λ c. search needs)  -- mul-twos
     (λ c κs. search needs)  -- blank-requires
-    (λ c. let s = c .before .before .before .before .before .before .before .before .before in front-count _ _ (omega (arith, s .pre .plants, s .pre .lent .submarket)))  -- slice-aggregate-open-columns
-    (λ c. let s = c .before .before .before .before .before .before .before .before .before .before in front-count _ _ (omega (arith, s .pre .plants, s .pre .lent .number)))  -- slice-aggregate-open-columns-2
-    (λ c. let s = c .before .before .before .before .before .before .before .before .before .before .before in front-count _ _ (omega (arith, s .pre .plants, s .pre .lent .guarantee)))  -- slice-aggregate-open-columns-3
-    (λ c. let s = c .before .before .before .before .before .before .before .before .before .before .before .before in front-count _ _ (omega (arith, s .pre .plants, s .pre .lent .loss)))  -- slice-aggregate-open-columns-4
-    (λ c. let s = c .before .before .before .before .before .before .before .before .before .before .before .before .before in front-count _ _ (omega (arith, s .pre .plants, s .pre .lent .availability)))  -- slice-aggregate-open-columns-5
-    (λ c. let s = c .before .before .before .before .before .before .before .before .before .before .before .before .before .before in front-count _ _ (omega (arith, s .pre .periods, s .pre .lent .profile)))  -- slice-aggregate-open-columns-6
-    (λ c. let s = c .before .before .before .before .before .before .before .before .before .before .before .before .before .before in omega (arith, s .pre .plants, s .pre .lent .allotted))  -- slice-relend-prefix-open-columns
-    (λ c. let s = c .before .before .before .before .before .before .before .before .before .before .before .before .before .before .before in front-count _ _ (omega (arith, s .pre .plants, s .pre .lent .allotted)))  -- slice-aggregate-open-columns-7
-    (λ c. let s = c .before .before .before .before .before .before .before .before .before .before .before .before .before .before .before in omega (arith, s .pre .plants, s .pre .lent .accounts))  -- slice-relend-prefix-open-columns-2
-    (λ c. let s = c .before .before .before .before .before .before .before .before .before .before .before .before .before .before .before .before in front-count _ _ (omega (arith, s .pre .plants, s .pre .lent .accounts)))  -- slice-aggregate-open-columns-8
-    (λ c κs. let s = c .before .before .before .before .before .before .before .before .before .before .before .before .before .before .before .before in equal-rows _ (s .pre .lent) _ (s .pre .plants))  -- open-columns-requires
-    (λ c κs. let s = c .before .before .before .before .before .before .before .before .before .before .before .before .before .before .before .before .before .before .before .before .before .before in omega (arith, s .pre .plants, s .pre .periods, s .pre .counted))  -- refused-requires
+    (λ c. let s = c .before .before .before .before .before in front-count _ _ (omega (arith, s .pre .periods, s .pre .lent .profile)))  -- slice-aggregate-open-columns
+    (λ c. let s = c .before .before .before .before .before in omega (arith, s .pre .plants, s .pre .lent .allotted))  -- slice-relend-prefix-open-columns
+    (λ c. let s = c .before .before .before .before .before .before in front-count _ _ (omega (arith, s .pre .plants, s .pre .lent .allotted)))  -- slice-aggregate-open-columns-2
+    (λ c. let s = c .before .before .before .before .before .before in omega (arith, s .pre .plants, s .pre .lent .accounts))  -- slice-relend-prefix-open-columns-2
+    (λ c. let s = c .before .before .before .before .before .before .before in front-count _ _ (omega (arith, s .pre .plants, s .pre .lent .accounts)))  -- slice-aggregate-open-columns-3
+    (λ c κs. let s = c .before .before .before .before .before .before .before in s .pre .lent .columns)  -- open-columns-requires
+    (λ c κs. let s = c .before .before .before .before .before .before .before .before .before .before .before .before .before in omega (arith, s .pre .plants, s .pre .periods, s .pre .counted))  -- refused-requires
     (λ c. search needs)  -- same-length
     (λ c. search needs)  -- same-length-2
     (λ c. let w = c .before .before .before .before .before .before in opening-refused _ (lists w) (entry w .pre) _ _ _ (answers w) (same w) (same-accounts w) _ (c .refused .ensures) (c .before .if1 .taken))  -- returns
-    (λ c κs. let s = c .before .before .before .before .before .before .before .before .before .before .before .before .before .before .before .before .before .before .before .before .before .before .before in omega (arith, s .pre .plants, s .pre .periods, s .pre .counted))  -- at-stage-requires
+    (λ c κs. let s = c .before .before .before .before .before .before .before .before .before .before .before .before .before .before in omega (arith, s .pre .plants, s .pre .periods, s .pre .counted))  -- at-stage-requires
     (λ c. search needs)  -- same-length-3
     (λ c. search needs)  -- same-length-4
     (λ c. let w = c .before .before .before .before .before .before .before in opening-opened _ (lists w) (entry w .pre) _ _ _ (answers w) (same w) (same-accounts w) (c .before .before .if1 .left) _ (c .at-stage .ensures)))  -- returns-2

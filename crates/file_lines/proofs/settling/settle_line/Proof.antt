@@ -4,12 +4,12 @@ use mathlib.Core.List.{List}
 use Prim.Native.Nat.{ℕ, _*_}
 use native.Mathlib.Omega.{arith}
 use borrow.Author.Needs.{needs}
-use lib.ListN.{length, take}
+use lib.ListN.{length, take, replicate, length-replicate}
 use lib.Seq.{length-take-le}
+use Rattle.records.specs.Records.{rowsOf}
 use Rattle.month.specs.Calls.{SettleEnd, settleCall}
 use Rattle.file_lines.specs.declared.MonthFile.{MonthFile}
-use Rattle.file_lines.specs.State.{Kept, kept, rowsOf, ledgerOf, Settling}
-use Rattle.file_lines.proofs.Rows.{equal-rows}
+use Rattle.file_lines.specs.State.{Kept, kept, ledgerOf, Settling}
 use Rattle.file_lines.proofs.Opened.{front-count}
 use Rattle.file_lines.proofs.Settled.{settling-refused, settling-settled}
 use Rattle.file_lines.proofs.settling.settle_line.Statement.{statement}
@@ -17,7 +17,7 @@ use Rattle.file_lines.proofs.settling.settle_line.Tie as tie
 
 -- once the month's own call has answered
 abbrev entry : tie.After-settle-columns → tie.Start
-entry c = c .before .before .before .before .before .before .before .before .before .before .before .before .before .before .before .before .before .before .before .before
+entry c = c .before .before .before .before .before .before .before .before .before .before
 
 abbrev state : tie.After-settle-columns → MonthFile
 state c = entry c .args .file
@@ -25,60 +25,57 @@ state c = entry c .args .file
 abbrev lists : tie.After-settle-columns → Kept
 lists c =
     let a = entry c .args in
-    kept (a .submarket .now) (a .number .now) (a .guarantee .now) (a .loss .now) (a .availability .now) (a .profile .now) (a .allotted .now) (a .accounts .now)
+    kept (a .columns .now) (a .profile .now) (a .allotted .now) (a .accounts .now)
 
 known : (s : tie.Start)
     → let a = s .args in
-    Settling (a .file) (kept (a .submarket .now) (a .number .now) (a .guarantee .now) (a .loss .now) (a .availability .now) (a .profile .now) (a .allotted .now) (a .accounts .now))
-known s = s .pre .1 .settling (s .pre .0 .0)
+    Settling (a .file) (kept (a .columns .now) (a .profile .now) (a .allotted .now) (a .accounts .now))
+known s = s .pre .1 .settling (s .pre .0)
+
+-- the allotment list
+abbrev places : List ℕ
+places = replicate 2048 0
 
 abbrev lent : tie.After-settle-columns → List ℕ
-lent c = take (4 * state c .month .plants) (entry c .args .allotment .now)
+lent c = take (4 * state c .month .plants) places
 
 few : (c : tie.After-settle-columns) → length (lent c) ≡ 4 * state c .month .plants
-few c = length-take-le _ _ (omega (arith, entry c .pre .0 .1, known (entry c) .plants))
+few c = length-take-le _ places (omega (arith, known (entry c) .plants, length-replicate {A = ℕ} 2048 0))
 
 answers : (c : tie.After-settle-columns)
     → let w = c .settle-columns in
     _≡_ {A = SettleEnd}
-    (record { answer = w .result; allotment = w .last .1 .1 .1 .1 .1 .1 .1 .1 .0; ledger = record { allotted = w .last .1 .1 .1 .1 .1 .1 .1 .1 .1 .0; accounts = w .last .1 .1 .1 .1 .1 .1 .1 .1 .1 .1 .0 } })
-    (settleCall (state c .month) (rowsOf (state c .month .plants) (lists c)) (take (state c .month .periods) (lists c .profile)) (entry c .args .metered .now) (lent c)
+    (record { answer = w .result; allotment = w .last .1 .1 .1 .1 .1 .0; ledger = record { allotted = w .last .1 .1 .1 .1 .1 .1 .0; accounts = w .last .1 .1 .1 .1 .1 .1 .1 .0 } })
+    (settleCall (state c .month) (rowsOf (state c .month .plants) (lists c .columns)) (take (state c .month .periods) (lists c .profile)) (entry c .args .metered .now) (lent c)
     (ledgerOf (state c .month .plants) (lists c)))
-unfolding rowsOf ledgerOf
+unfolding ledgerOf
 answers c = c .settle-columns .ensures
 
-abbrev same : (c : tie.After-settle-columns) → length (c .settle-columns .last .1 .1 .1 .1 .1 .1 .1 .1 .1 .0) ≡ length (take (4 * state c .month .plants) (lists c .allotted))
-same c = c .settle-columns .kept .1 .1 .1 .1 .1 .1 .1 .1 .1 .0
+abbrev same : (c : tie.After-settle-columns) → length (c .settle-columns .last .1 .1 .1 .1 .1 .1 .0) ≡ length (take (4 * state c .month .plants) (lists c .allotted))
+same c = c .settle-columns .kept .1 .1 .1 .1 .1 .1 .0
 
-abbrev same-accounts : (c : tie.After-settle-columns) → length (c .settle-columns .last .1 .1 .1 .1 .1 .1 .1 .1 .1 .1 .0) ≡ length (take (2 * state c .month .plants) (lists c .accounts))
-same-accounts c = c .settle-columns .kept .1 .1 .1 .1 .1 .1 .1 .1 .1 .1 .0
+abbrev same-accounts : (c : tie.After-settle-columns) → length (c .settle-columns .last .1 .1 .1 .1 .1 .1 .1 .0) ≡ length (take (2 * state c .month .plants) (lists c .accounts))
+same-accounts c = c .settle-columns .kept .1 .1 .1 .1 .1 .1 .1 .0
 
 pub settle-line-spec : {M : Type 1} → statement M
 settle-line-spec =
     tie.close
     (tie.spec
-    (λ c. let s = c .before .before .before .before .before .before .before .before .before .before in let g = known s in omega (arith, g .plants))  -- mul-fours
-    (λ c. let s = c .before .before .before .before .before .before .before .before .before .before in let g = known s in omega (arith, g .plants))  -- mul-twos
-    (λ c. let s = c .before .before .before .before .before .before .before .before .before .before .before in front-count _ _ (omega (arith, known s .plants, s .pre .1 .lent .submarket)))  -- slice-aggregate-settle-columns
-    (λ c. let s = c .before .before .before .before .before .before .before .before .before .before .before .before in front-count _ _ (omega (arith, known s .plants, s .pre .1 .lent .number)))  -- slice-aggregate-settle-columns-2
-    (λ c. let s = c .before .before .before .before .before .before .before .before .before .before .before .before .before in front-count _ _ (omega (arith, known s .plants, s .pre .1 .lent .guarantee)))  -- slice-aggregate-settle-columns-3
-    (λ c. let s = c .before .before .before .before .before .before .before .before .before .before .before .before .before .before in front-count _ _ (omega (arith, known s .plants, s .pre .1 .lent .loss)))  -- slice-aggregate-settle-columns-4
-    (λ c. let s = c .before .before .before .before .before .before .before .before .before .before .before .before .before .before .before in front-count _ _ (omega (arith, known s .plants, s .pre .1 .lent .availability)))  -- slice-aggregate-settle-columns-5
-    (λ c. let s = c .before .before .before .before .before .before .before .before .before .before .before .before .before .before .before .before in front-count _ _ (omega (arith, known s .periods, s .pre .1 .lent .profile)))  -- slice-aggregate-settle-columns-6
-    (λ c. let s = c .before .before .before .before .before .before .before .before .before .before .before .before .before .before .before .before in let g = known s in omega (arith, g .plants, s .pre .0 .1))  -- slice-relend-prefix-settle-columns
-    (λ c. let s = c .before .before .before .before .before .before .before .before .before .before .before .before .before .before .before .before .before in front-count _ _ (omega (arith, known s .plants, s .pre .0 .1)))  -- slice-aggregate-settle-columns-7
-    (λ c. let s = c .before .before .before .before .before .before .before .before .before .before .before .before .before .before .before .before .before in let g = known s in omega (arith, g .plants, s .pre .1 .lent .allotted))  -- slice-relend-prefix-settle-columns-2
-    (λ c. let s = c .before .before .before .before .before .before .before .before .before .before .before .before .before .before .before .before .before .before in front-count _ _ (omega (arith, known s .plants, s .pre .1 .lent .allotted)))  -- slice-aggregate-settle-columns-8
-    (λ c. let s = c .before .before .before .before .before .before .before .before .before .before .before .before .before .before .before .before .before .before in let g = known s in omega (arith, g .plants, s .pre .1 .lent .accounts))  -- slice-relend-prefix-settle-columns-3
-    (λ c. let s = c .before .before .before .before .before .before .before .before .before .before .before .before .before .before .before .before .before .before .before in front-count _ _ (omega (arith, known s .plants, s .pre .1 .lent .accounts)))  -- slice-aggregate-settle-columns-9
-    (λ c κs. let s = c .before .before .before .before .before .before .before .before .before .before .before .before .before .before .before .before .before .before .before in equal-rows _ (s .pre .1 .lent) _ (known s .plants))  -- settle-columns-requires
-    (λ c κs. let s = c .before .before .before .before .before .before .before .before .before .before .before .before .before .before .before .before .before .before .before .before .before .before .before .before .before .before .before in let g = known s in omega (arith, g .plants, g .periods, g .due, g .counted))  -- refused-requires
+    (λ c. let s = c .before .before .before .before .before in let g = known s in omega (arith, g .plants))  -- mul-fours
+    (λ c. let s = c .before .before .before .before .before in let g = known s in omega (arith, g .plants))  -- mul-twos
+    (λ c. let s = c .before .before .before .before .before .before in front-count _ _ (omega (arith, known s .periods, s .pre .1 .lent .profile)))  -- slice-aggregate-settle-columns
+    (λ c. let s = c .before .before .before .before .before .before in let g = known s in omega (arith, g .plants))  -- array-borrow-prefix-allotment
+    (λ c. let s = c .before .before .before .before .before .before .before in front-count _ places (omega (arith, known s .plants, length-replicate {A = ℕ} 2048 0)))  -- slice-aggregate-settle-columns-2
+    (λ c. let s = c .before .before .before .before .before .before .before in let g = known s in omega (arith, g .plants, s .pre .1 .lent .allotted))  -- slice-relend-prefix-settle-columns
+    (λ c. let s = c .before .before .before .before .before .before .before .before in front-count _ _ (omega (arith, known s .plants, s .pre .1 .lent .allotted)))  -- slice-aggregate-settle-columns-3
+    (λ c. let s = c .before .before .before .before .before .before .before .before in let g = known s in omega (arith, g .plants, s .pre .1 .lent .accounts))  -- slice-relend-prefix-settle-columns-2
+    (λ c. let s = c .before .before .before .before .before .before .before .before .before in front-count _ _ (omega (arith, known s .plants, s .pre .1 .lent .accounts)))  -- slice-aggregate-settle-columns-4
+    (λ c κs. let s = c .before .before .before .before .before .before .before .before .before in s .pre .1 .lent .columns)  -- settle-columns-requires
+    (λ c κs. let s = c .before .before .before .before .before .before .before .before .before .before .before .before .before .before .before .before in let g = known s in omega (arith, g .plants, g .periods, g .due, g .counted))  -- refused-requires
     (λ c. search needs)  -- same-length
     (λ c. search needs)  -- same-length-2
+    (λ c. let w = c .before .before .before .before .before .before .before in settling-refused _ (lists w) (entry w .pre .0) (entry w .pre .1) _ (lent w) _ _ _ _ (few w) (answers w) (same w) (same-accounts w) _ (c .refused .ensures) (c .before .if1 .taken))  -- returns
+    (λ c κs. let s = c .before .before .before .before .before .before .before .before .before .before .before .before .before .before .before .before .before in let g = known s in omega (arith, g .plants, g .periods, g .due, g .counted))  -- at-stage-requires
     (λ c. search needs)  -- same-length-3
-    (λ c. let w = c .before .before .before .before .before .before .before .before in settling-refused _ (lists w) (entry w .pre .0 .0) (entry w .pre .1) _ (lent w) _ _ _ _ (few w) (answers w) (same w) (same-accounts w) _ (c .refused .ensures) (c .before .if1 .taken))  -- returns
-    (λ c κs. let s = c .before .before .before .before .before .before .before .before .before .before .before .before .before .before .before .before .before .before .before .before .before .before .before .before .before .before .before .before in let g = known s in omega (arith, g .plants, g .periods, g .due, g .counted))  -- at-stage-requires
     (λ c. search needs)  -- same-length-4
-    (λ c. search needs)  -- same-length-5
-    (λ c. search needs)  -- same-length-6
-    (λ c. let w = c .before .before .before .before .before .before .before .before .before in settling-settled _ (lists w) (entry w .pre .0 .0) (entry w .pre .1) _ (lent w) _ _ _ _ (few w) (answers w) (same w) (same-accounts w) (c .before .before .if1 .left) _ (c .at-stage .ensures)))  -- returns-2
+    (λ c. let w = c .before .before .before .before .before .before .before .before in settling-settled _ (lists w) (entry w .pre .0) (entry w .pre .1) _ (lent w) _ _ _ _ (few w) (answers w) (same w) (same-accounts w) (c .before .before .if1 .left) _ (c .at-stage .ensures)))  -- returns-2

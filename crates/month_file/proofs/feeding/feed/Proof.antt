@@ -11,11 +11,11 @@ use Rattle.month_file.proofs.feeding.feed.Statement.{statement}
 use Rattle.month_file.proofs.feeding.feed.Tie as tie
 
 abbrev Inv-loop : tie.InvT-loop
-Inv-loop part line₀ figures₀ submarket₀ number₀ guarantee₀ loss₀ availability₀ profile₀ allotment₀ allotted₀ accounts₀ f₀ at₀ line figures submarket number guarantee loss availability profile allotment allotted accounts f at =
-    Feeding part line₀ figures₀ allotment₀ (kept submarket₀ number₀ guarantee₀ loss₀ availability₀ profile₀ allotted₀ accounts₀) f₀ line figures allotment (kept submarket number guarantee loss availability profile allotted accounts) f at
+Inv-loop part line₀ columns₀ profile₀ allotted₀ accounts₀ f₀ at₀ line columns profile allotted accounts f at =
+    Feeding part line₀ (kept columns₀ profile₀ allotted₀ accounts₀) f₀ line (kept columns profile allotted accounts) f at
 
 abbrev μ-loop : tie.MeasureT-loop
-μ-loop part line₀ figures₀ submarket₀ number₀ guarantee₀ loss₀ availability₀ profile₀ allotment₀ allotted₀ accounts₀ f₀ at₀ line figures submarket number guarantee loss availability profile allotment allotted accounts f at = length part - at
+μ-loop part line₀ columns₀ profile₀ allotted₀ accounts₀ f₀ at₀ line columns profile allotted accounts f at = length part - at
 
 pub feed-spec : {M : Type 1} → statement M
 feed-spec =
@@ -23,24 +23,18 @@ feed-spec =
     (tie.spec
     Inv-loop  -- Inv-loop
     μ-loop  -- μ-loop
-    (λ c. feeding (c .before .before .before .before .before .before .before .before .before .before .before .pre .0) (c .before .before .before .before .before .before .before .before .before .before .before .pre .1))  -- loop-holds
-    (λ c κs. let i = c .before .before .loop .inv in (c .before .loop-test .taken, i .room .bytes, i .valid .short, few-lines _ _ (i .valid)))  -- next-line-requires
-    (λ c. let i = c .before .before .before .before .before .before .before .loop .inv in omega (arith, c .before .before .before .before .next-line .ensures _ (i .valid) .valid .short, c .before .before .before .before .next-line .kept .1 .1 .1 .0, i .room .bytes))  -- slice-reshare-prefix-take-line
-    (λ c. let i = c .before .before .before .before .before .before .before .before .loop .inv in front-count _ _ (omega (arith, c .before .before .before .before .before .next-line .ensures _ (i .valid) .valid .short, c .before .before .before .before .before .next-line .kept .1 .1 .1 .0, i .room .bytes)))  -- slice-aggregate-take-line
-    (λ c κs. let i = c .before .before .before .before .before .before .before .before .before .before .before .before .before .before .before .before .before .before .loop .inv in let s = c .before .before .before .before .before .before .before .before .before .before .before .before .before .before .before .next-line .ensures _ (i .valid) in ((s .due (c .before .before .before .before .before .before .before .before .before .before .before .if1 .taken), i .room .places, i .room .fours), s .valid))  -- take-line-requires
-    (λ c. let s = c .before .before .before .before .before .before .before .before .before .before .before .before .before .before .before .before .before .before .before .before .before .before .before .before .before .before .before .before .before .before .before .before .before .before .before .next-line .ensures _ (c .before .before .before .before .before .before .before .before .before .before .before .before .before .before .before .before .before .before .before .before .before .before .before .before .before .before .before .before .before .before .before .before .before .before .before .before .before .before .loop .inv .valid) in omega (arith, c .before .before .before .before .before .before .before .before .before .before .before .before .before .before .before .before .before .before .before .before .before .before .before .before .before .before .before .before .before .before .before .before .before .before .before .before .before .loop-test .taken, s .low, s .high))  -- loop-less
-    (λ c. let w = c .before .before .before .before .before .before .before .before .before .before .before .before .before .before .before .before .before .before .before .take-line in feeding-line (c .before .before .before .before .before .before .before .before .before .before .before .before .before .before .before .before .before .before .before .before .before .before .before .before .before .before .before .before .before .before .before .before .before .before .before .before .before .before .loop .inv) (c .before .before .before .before .before .before .before .before .before .before .before .before .before .before .before .before .before .before .before .before .before .before .before .before .before .before .before .before .before .before .before .before .before .before .before .next-line .ensures _ (c .before .before .before .before .before .before .before .before .before .before .before .before .before .before .before .before .before .before .before .before .before .before .before .before .before .before .before .before .before .before .before .before .before .before .before .before .before .before .loop .inv .valid)) (c .before .before .before .before .before .before .before .before .before .before .before .before .before .before .before .before .before .before .before .before .before .before .before .before .before .before .before .before .before .before .before .if1 .taken) (c .before .before .before .before .before .before .before .before .before .before .before .before .before .before .before .before .before .before .before .before .before .before .before .before .before .before .before .before .before .before .before .before .before .before .before .next-line .kept .1 .1 .1 .0) (w .ensures) (record { bytes = refl; places = w .kept .1 .1 .0; submarket = w .kept .1 .1 .1 .0; number = w .kept .1 .1 .1 .1 .0; guarantee = w .kept .1 .1 .1 .1 .1 .0; loss = w .kept .1 .1 .1 .1 .1 .1 .0; availability = w .kept .1 .1 .1 .1 .1 .1 .1 .0; profile = w .kept .1 .1 .1 .1 .1 .1 .1 .1 .0; fours = w .kept .1 .1 .1 .1 .1 .1 .1 .1 .1 .0; allotted = w .kept .1 .1 .1 .1 .1 .1 .1 .1 .1 .1 .0; accounts = w .kept .1 .1 .1 .1 .1 .1 .1 .1 .1 .1 .1 .0 }))  -- loop-again
+    (λ c. feeding (c .before .before .before .before .before .pre .0) (c .before .before .before .before .before .pre .1))  -- loop-holds
+    (λ c κs. let i = c .before .before .loop .inv in (c .before .loop-test .taken, i .room, i .valid .short, few-lines _ _ (i .valid)))  -- next-line-requires
+    (λ c. let i = c .before .before .before .before .before .before .before .loop .inv in omega (arith, c .before .before .before .before .next-line .ensures _ (i .valid) .valid .short, c .before .before .before .before .next-line .kept .1 .1 .1 .0, i .room))  -- slice-reshare-prefix-take-line
+    (λ c. let i = c .before .before .before .before .before .before .before .before .loop .inv in front-count _ _ (omega (arith, c .before .before .before .before .before .next-line .ensures _ (i .valid) .valid .short, c .before .before .before .before .before .next-line .kept .1 .1 .1 .0, i .room)))  -- slice-aggregate-take-line
+    (λ c κs. let i = c .before .before .before .before .before .before .before .before .before .before .before .before .loop .inv in let s = c .before .before .before .before .before .before .before .before .before .next-line .ensures _ (i .valid) in (s .due (c .before .before .before .before .before .if1 .taken), s .valid))  -- take-line-requires
+    (λ c. let s = c .before .before .before .before .before .before .before .before .before .before .before .before .before .before .before .before .before .next-line .ensures _ (c .before .before .before .before .before .before .before .before .before .before .before .before .before .before .before .before .before .before .before .before .loop .inv .valid) in omega (arith, c .before .before .before .before .before .before .before .before .before .before .before .before .before .before .before .before .before .before .before .loop-test .taken, s .low, s .high))  -- loop-less
+    (λ c. let w = c .before .before .before .before .before .before .before .take-line in feeding-line (c .before .before .before .before .before .before .before .before .before .before .before .before .before .before .before .before .before .before .before .before .loop .inv) (c .before .before .before .before .before .before .before .before .before .before .before .before .before .before .before .before .before .next-line .ensures _ (c .before .before .before .before .before .before .before .before .before .before .before .before .before .before .before .before .before .before .before .before .loop .inv .valid)) (c .before .before .before .before .before .before .before .before .before .before .before .before .before .if1 .taken) (c .before .before .before .before .before .before .before .before .before .before .before .before .before .before .before .before .before .next-line .kept .1 .1 .1 .0) (w .ensures) (record { bytes = refl; columns = w .kept .1 .1 .0; profile = w .kept .1 .1 .1 .0; allotted = w .kept .1 .1 .1 .1 .0; accounts = w .kept .1 .1 .1 .1 .1 .0 }))  -- loop-again
     (λ c. let s = c .before .before .before .before .next-line .ensures _ (c .before .before .before .before .before .before .before .loop .inv .valid) in omega (arith, c .before .before .before .before .before .before .loop-test .taken, s .low, s .high))  -- loop-less-2
     (λ c. feeding-on (c .before .before .before .before .before .before .before .loop .inv) (c .before .before .before .before .next-line .ensures _ (c .before .before .before .before .before .before .before .loop .inv .valid)) (c .if1 .left) (c .before .before .before .before .next-line .kept .1 .1 .1 .0))  -- loop-again-2
     (λ c. c .before .loop .inv .alike .bytes)  -- same-length
-    (λ c. c .before .loop .inv .alike .places)  -- same-length-2
-    (λ c. c .before .loop .inv .alike .submarket)  -- same-length-3
-    (λ c. c .before .loop .inv .alike .number)  -- same-length-4
-    (λ c. c .before .loop .inv .alike .guarantee)  -- same-length-5
-    (λ c. c .before .loop .inv .alike .loss)  -- same-length-6
-    (λ c. c .before .loop .inv .alike .availability)  -- same-length-7
-    (λ c. c .before .loop .inv .alike .profile)  -- same-length-8
-    (λ c. c .before .loop .inv .alike .fours)  -- same-length-9
-    (λ c. c .before .loop .inv .alike .allotted)  -- same-length-10
-    (λ c. c .before .loop .inv .alike .accounts)  -- same-length-11
+    (λ c. c .before .loop .inv .alike .columns)  -- same-length-2
+    (λ c. c .before .loop .inv .alike .profile)  -- same-length-3
+    (λ c. c .before .loop .inv .alike .allotted)  -- same-length-4
+    (λ c. c .before .loop .inv .alike .accounts)  -- same-length-5
     (λ c. all-fed (c .before .loop .inv) (c .loop-test .left)))  -- returns

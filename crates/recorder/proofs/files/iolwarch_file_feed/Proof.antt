@@ -7,15 +7,9 @@ iolwarch-file-feed-spec =
     tie.close
     (tie.spec
     (λ c κs. tt)  -- feed-kept-requires
-    (λ c. c .before .before .before .before .before .before .before .before .before .before .before .before .before .before .before .before .before .before .before .before .before .feed-kept .kept .1 .1 .0)  -- same-length
-    (λ c. c .before .before .before .before .before .before .before .before .before .before .before .before .before .before .before .before .before .before .before .before .before .feed-kept .kept .1 .1 .1 .0)  -- same-length-2
-    (λ c. c .before .before .before .before .before .before .before .before .before .before .before .before .before .before .before .before .before .before .before .before .before .feed-kept .kept .1 .1 .1 .1 .0)  -- same-length-3
-    (λ c. c .before .before .before .before .before .before .before .before .before .before .before .before .before .before .before .before .before .before .before .before .before .feed-kept .kept .1 .1 .1 .1 .1 .0)  -- same-length-4
-    (λ c. c .before .before .before .before .before .before .before .before .before .before .before .before .before .before .before .before .before .before .before .before .before .feed-kept .kept .1 .1 .1 .1 .1 .1 .0)  -- same-length-5
-    (λ c. c .before .before .before .before .before .before .before .before .before .before .before .before .before .before .before .before .before .before .before .before .before .feed-kept .kept .1 .1 .1 .1 .1 .1 .1 .0)  -- same-length-6
-    (λ c. c .before .before .before .before .before .before .before .before .before .before .before .before .before .before .before .before .before .before .before .before .before .feed-kept .kept .1 .1 .1 .1 .1 .1 .1 .1 .0)  -- same-length-7
-    (λ c. c .before .before .before .before .before .before .before .before .before .before .before .before .before .before .before .before .before .before .before .before .before .feed-kept .kept .1 .1 .1 .1 .1 .1 .1 .1 .1 .0)  -- same-length-8
-    (λ c. c .before .before .before .before .before .before .before .before .before .before .before .before .before .before .before .before .before .before .before .before .before .feed-kept .kept .1 .1 .1 .1 .1 .1 .1 .1 .1 .1 .0)  -- same-length-9
-    (λ c. c .before .before .before .before .before .before .before .before .before .before .before .before .before .before .before .before .before .before .before .before .before .feed-kept .kept .1 .1 .1 .1 .1 .1 .1 .1 .1 .1 .1 .0)  -- same-length-10
-    (λ c. c .before .before .before .before .before .before .before .before .before .before .before .before .before .before .before .before .before .before .before .before .before .feed-kept .kept .1 .1 .1 .1 .1 .1 .1 .1 .1 .1 .1 .1 .0)  -- same-length-11
-    (λ c. c .before .before .before .before .before .before .before .before .before .before .before .before .before .before .before .before .before .before .before .before .before .feed-kept .ensures))  -- returns
+    (λ c. c .before .before .before .before .before .before .before .before .before .feed-kept .kept .1 .1 .0)  -- same-length
+    (λ c. c .before .before .before .before .before .before .before .before .before .feed-kept .kept .1 .1 .1 .0)  -- same-length-2
+    (λ c. c .before .before .before .before .before .before .before .before .before .feed-kept .kept .1 .1 .1 .1 .0)  -- same-length-3
+    (λ c. c .before .before .before .before .before .before .before .before .before .feed-kept .kept .1 .1 .1 .1 .1 .0)  -- same-length-4
+    (λ c. c .before .before .before .before .before .before .before .before .before .feed-kept .kept .1 .1 .1 .1 .1 .1 .0)  -- same-length-5
+    (λ c. c .before .before .before .before .before .before .before .before .before .feed-kept .ensures))  -- returns

@@ -7,6 +7,5 @@ iolwarch-file-finish-spec =
     tie.close
     (tie.spec
     (λ c κs. tt)  -- finish-kept-requires
-    (λ c. c .before .before .before .before .finish-kept .kept .1 .1 .0)  -- same-length
-    (λ c. c .before .before .before .before .finish-kept .kept .1 .1 .1 .1 .1 .1 .1 .1 .1 .1 .1 .0)  -- same-length-2
-    (λ c. c .before .before .before .before .finish-kept .ensures))  -- returns
+    (λ c. c .before .before .finish-kept .kept .1 .1 .1 .1 .1 .1 .0)  -- same-length
+    (λ c. c .before .before .finish-kept .ensures))  -- returns

@@ -42,10 +42,11 @@ keptOf m = record { stage = stageNumber (m .stage); plants = m .plants; periods 
 unfoldable pub handedBack : ℕ → KeptMonth → Month → KeptMonth
 handedBack number k m = outcome number (keptOf m) (λ _. k)
 
--- the answers of open, settle, statement and statement_size, as C gets them
+-- open's answer, as C gets it
 unfoldable pub openedKept : KeptMonth → Opened → KeptEnd
 openedKept k r = record { number = r .number; month = handedBack (r .number) k (r .month) }
 
+-- settle's answer, as C gets it
 unfoldable pub settledKept : KeptMonth → Settled → KeptSettle
 settledKept k r =
     record {
@@ -57,9 +58,11 @@ settledKept k r =
       «secondary_table» = r .«secondary_table»;
     }
 
+-- the statement's answer, as C gets it; its month is the caller's own
 unfoldable pub statedKept : KeptMonth → Stated → KeptStated
 statedKept k r = record { number = r .number; month = k; length = r .length }
 
+-- the sizing call's answer, as C gets it; its month is the caller's own
 unfoldable pub sizedKept : KeptMonth → Sized → KeptSized
 sizedKept k r = record { number = r .number; month = k; size = r .size }
 

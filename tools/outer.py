@@ -5,7 +5,7 @@
 
 Two shapes stand, and the tool knows them as one: lets, each the length of a list or a call, of which the last answers.
 
-    let n = plants.len(); let c = columns(plants); self.table(n, c, ..)                 the methods of Month
+    let n = plants.len(); let c = columns(plants); self.open_table(n, c, ..)                        the methods of Month
     let meant = month_of(month); let opened = meant.open(plants, ..); opened_kept(month, opened)    the exported calls
 
 A call is handed parameters and earlier lets. Of a parameter it gets a copy, but a `&mut` is given up, once; so is a let.
@@ -90,21 +90,22 @@ def cited(uses, body):
 
 
 class Value:
-    """A parameter or a let, and its texts: in the logic its name, on the machine val-NAME, in a call's local."""
+    """A parameter or a let: its local, and its texts. In the logic it is NAME, on the machine val-NAME."""
     def __init__(self, name, type, local, life=None, counts=None):
         self.name, self.type, self.local, self.life, self.value, self.last = name, type, local, life, f"val-{name}", f"{name}-last"
         of = type[type.index("[") + 1:-1] if "[" in type else type
+        size = of.removeprefix("u64; ")
         self.kind = "mut" if type.startswith("&mut") else "shr" if type.startswith("&") else "array" if of != type else "number" if of in DENOTED else "struct"
         self.is_list = self.kind in ("shr", "mut")
         self.element, self.ends = of if of in DENOTED else f"{of}-T.the-row", f"List {DENOTED.get(of, of)}"
         self.fits = f"room-{counts or name} .0" if counts or self.is_list else f"fits-{name}"
         at, fits, laws, lent = f"{name} ({self.value} ∷ [])", f"record {{ fits = {self.fits} }}", f"{type}-T.the-type {type}-L.the-laws", f"(named {life}) κ-{name} {self.element}"
         reference = ("slice-vals", f"sliceVal ({name} .ptr) (length ({name} .now))", f"RefT ({self.ends})", f"tt, (tt, ({fits}, tt))")
-        # how the machine value is spelled, the value, the type in the logic, that the value has the local's type, the row, that the row tells the value
+        # how the machine value is spelled, it, the type in the logic, that the value has its local's type, the type's row, that the row tells the value
         self.spelled, self.machine, self.denoted, self.typed, self.row, self.tells = {
             "number": ("uint-vals w64", f"vint w64 {name}", "ℕ", f"tt, {fits}", type, "uint-tells w64"),
             "struct": (f"LL.vals {laws}", f"LL.val {laws} {name}", type, f"LL.lawful {laws} 𝓤 H A W .typed {at} is-own-{name} .0", self.element, f"LL.tells {laws}"),
-            "array": ("", "", "List ℕ", f"array-lawful 𝓤 H A W u64 (uint-lawful 𝓤 H A W w64) 2560 .typed {at} is-own-{name} .0", "(Array u64 2560)", ""),
+            "array": ("", "", "List ℕ", f"array-lawful 𝓤 H A W u64 (uint-lawful 𝓤 H A W w64) {size} .typed {at} is-own-{name} .0", f"(Array u64 {size})", ""),
             "shr": (*reference, f"(ShrSlice {lent})", f"shr-slice-tells {lent}"),
             "mut": (*reference, f"(MutSlice {lent})", f"mut-slice-tells {lent}")}[self.kind]
         self.owned, self.token = f"{self.row} .own {at}", f"‵ (flft κ-{name} q-{name})"

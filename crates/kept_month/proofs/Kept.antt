@@ -24,8 +24,10 @@ use Rattle.month.specs.Statement.{statementNumber, StatementEnd, statementCall,
 use Rattle.kept_month.specs.declared.KeptMonth.{KeptMonth}
 use Rattle.kept_month.specs.declared.KeptEnd.{KeptEnd}
 use Rattle.kept_month.specs.declared.KeptBalance.{KeptBalance}
+use Rattle.kept_month.specs.declared.KeptSettle.{KeptSettle}
+use Rattle.kept_month.specs.declared.KeptStated.{KeptStated}
 use Rattle.kept_month.specs.declared.KeptSized.{KeptSized}
-use Rattle.kept_month.specs.Months.{stageOf, stageNumber, monthOf, keptOf, handedBack, OpenKeptEnd, openKept, SettleKeptEnd, settleKept, closeKept, balanceKept, StatementKeptEnd, statementKept, SizeKept}
+use Rattle.kept_month.specs.Months.{stageOf, stageNumber, monthOf, keptOf, handedBack, openedKept, settledKept, statedKept, sizedKept, OpenKeptEnd, openKept, SettleKeptEnd, settleKept, closeKept, balanceKept, StatementKeptEnd, statementKept, SizeKept}
 use Rattle.kept_month.specs.Laws.{Months}
 
 -- ---- the stage
@@ -60,48 +62,22 @@ back-accepted n k m z e = accepts n n _ _ _ refl z e
 
 -- what C gets of what open, and settle, leave inside
 from-opening : KeptMonth → OpenEnd → OpenKeptEnd
-from-opening k y =
-    record { answer = record { number = y .answer .number; month = handedBack (y .answer .number) k (y .answer .month) }; ledger = y .ledger }
+from-opening k y = record { answer = openedKept k (y .answer); ledger = y .ledger }
 
-pub opens : (k : KeptMonth) (plants : List Plant) (profile : List ℕ) (tariff : ℕ) (l after : Ledger) {m : Month} {x : Opened} {month : KeptMonth} → m ≡ monthOf k
-    → _≡_ {A = OpenEnd} (record { answer = x; ledger = after }) (openCall m plants profile tariff l) → month ≡ handedBack (x .number) k (x .month)
-    → _≡_ {A = OpenKeptEnd} (record { answer = record { number = x .number; month = month }; ledger = after }) (openKept k plants profile tariff l)
+pub opens : (k : KeptMonth) (plants : List Plant) (profile : List ℕ) (tariff : ℕ) (l after : Ledger) {m : Month} {x : Opened} {r : KeptEnd} → m ≡ monthOf k
+    → _≡_ {A = OpenEnd} (record { answer = x; ledger = after }) (openCall m plants profile tariff l) → r ≡ openedKept k x
+    → _≡_ {A = OpenKeptEnd} (record { answer = r; ledger = after }) (openKept k plants profile tariff l)
 unfolding openKept from-opening
-opens k plants profile tariff l after p e r = rw r (ap (from-opening k) (e ∙ ap (λ (m : Month). openCall m plants profile tariff l) p))
+opens k plants profile tariff l after p e q = rw q (ap (from-opening k) (e ∙ ap (λ (m : Month). openCall m plants profile tariff l) p))
 
 from-settling : KeptMonth → SettleEnd → SettleKeptEnd
-from-settling k y =
-    record {
-      answer = record {
-        number = y .answer .number;
-        month = handedBack (y .answer .number) k (y .answer .month);
-        secondary = y .answer .secondary;
-        guarantees = y .answer .guarantees;
-        «cover_table» = y .answer .«cover_table»;
-        «secondary_table» = y .answer .«secondary_table»;
-      };
-      allotment = y .allotment;
-      ledger = y .ledger;
-    }
+from-settling k y = record { answer = settledKept k (y .answer); allotment = y .allotment; ledger = y .ledger }
 
-pub settles : (k : KeptMonth) (plants : List Plant) (profile metered lent allotment : List ℕ) (l after : Ledger) {m : Month} {x : Settled} {month : KeptMonth} → m ≡ monthOf k
-    → _≡_ {A = SettleEnd} (record { answer = x; allotment = allotment; ledger = after }) (settleCall m plants profile metered lent l) → month ≡ handedBack (x .number) k (x .month)
-    → _≡_ {A = SettleKeptEnd}
-    (record {
-      answer = record {
-        number = x .number;
-        month = month;
-        secondary = x .secondary;
-        guarantees = x .guarantees;
-        «cover_table» = x .«cover_table»;
-        «secondary_table» = x .«secondary_table»;
-      };
-      allotment = allotment;
-      ledger = after;
-    })
-    (settleKept k plants profile metered lent l)
+pub settles : (k : KeptMonth) (plants : List Plant) (profile metered lent allotment : List ℕ) (l after : Ledger) {m : Month} {x : Settled} {r : KeptSettle} → m ≡ monthOf k
+    → _≡_ {A = SettleEnd} (record { answer = x; allotment = allotment; ledger = after }) (settleCall m plants profile metered lent l) → r ≡ settledKept k x
+    → _≡_ {A = SettleKeptEnd} (record { answer = r; allotment = allotment; ledger = after }) (settleKept k plants profile metered lent l)
 unfolding settleKept from-settling
-settles k plants profile metered lent allotment l after p e r = rw r (ap (from-settling k) (e ∙ ap (λ (m : Month). settleCall m plants profile metered lent l) p))
+settles k plants profile metered lent allotment l after p e q = rw q (ap (from-settling k) (e ∙ ap (λ (m : Month). settleCall m plants profile metered lent l) p))
 
 pub closes : (k : KeptMonth) {m : Month} {end : Ended} {after : KeptMonth} → m ≡ monthOf k → end ≡ closeCall m → after ≡ handedBack (end .number) k (end .month)
     → _≡_ {A = KeptEnd} (record { number = end .number; month = after }) (closeKept k)
@@ -114,20 +90,21 @@ unfolding balanceKept
 balances k l p q r s = rw (r, s, q, p)
 
 from-stating : KeptMonth → StatementEnd → StatementKeptEnd
-from-stating k y = record { answer = record { number = y .answer .number; month = k; length = y .answer .length }; bytes = y .bytes }
+from-stating k y = record { answer = statedKept k (y .answer); bytes = y .bytes }
 
-pub states : (k : KeptMonth) (plants : List Plant) (l : Ledger) (lent after : List ℕ) {m : Month} {x : Stated} → m ≡ monthOf k
-    → _≡_ {A = StatementEnd} (record { answer = x; bytes = after }) (statementCall m plants l lent)
-    → _≡_ {A = StatementKeptEnd} (record { answer = record { number = x .number; month = k; length = x .length }; bytes = after }) (statementKept k plants l lent)
+pub states : (k : KeptMonth) (plants : List Plant) (l : Ledger) (lent after : List ℕ) {m : Month} {x : Stated} {r : KeptStated} → m ≡ monthOf k
+    → _≡_ {A = StatementEnd} (record { answer = x; bytes = after }) (statementCall m plants l lent) → r ≡ statedKept k x
+    → _≡_ {A = StatementKeptEnd} (record { answer = r; bytes = after }) (statementKept k plants l lent)
 unfolding statementKept from-stating
-states k plants l lent after p e = ap (from-stating k) (e ∙ ap (λ (m : Month). statementCall m plants l lent) p)
+states k plants l lent after p e q = rw q (ap (from-stating k) (e ∙ ap (λ (m : Month). statementCall m plants l lent) p))
 
-pub sizes : (k : KeptMonth) (plants : List Plant) (l : Ledger) {m : Month} {x : Sized} → m ≡ monthOf k → Sizing m plants l x
-    → SizeKept k plants l (record { number = x .number; month = k; size = x .size })
-sizes k plants l {m} {x} p s =
+pub sizes : (k : KeptMonth) (plants : List Plant) (l : Ledger) {m : Month} {x : Sized} {r : KeptSized} → m ≡ monthOf k → Sizing m plants l x → r ≡ sizedKept k x
+    → SizeKept k plants l r
+unfolding sizedKept
+sizes k plants l {m} {x} p s q =
     let own : Sizing m plants l (record { number = x .number; month = m; size = x .size }) =
     record { number = s .number; month = refl; refused = s .refused; enough = s .enough; most = s .most } in
-    record { month = refl; sizing = rw (← p) own }
+    rw q (record { month = refl; sizing = rw (← p) own })
 
 -- ---- the promises
 
@@ -137,7 +114,7 @@ back m = rw (stage-back (m .stage))
 
 opened : (k : KeptMonth) (plants : List Plant) (profile : List ℕ) (tariff : ℕ) (l : Ledger)
     → monthOf (openKept k plants profile tariff l .answer .month) ≡ openCall (monthOf k) plants profile tariff l .answer .month
-unfolding openKept openCall handedBack outcome
+unfolding openKept openedKept openCall handedBack outcome
 opened k plants profile tariff l = by (openNumber (monthOf k) plants profile tariff l) refl
   where
     by : (n : ℕ) → openNumber (monthOf k) plants profile tariff l ≡ n
@@ -147,7 +124,7 @@ opened k plants profile tariff l = by (openNumber (monthOf k) plants profile tar
 
 settled : (k : KeptMonth) (plants : List Plant) (profile metered lent : List ℕ) (l : Ledger)
     → monthOf (settleKept k plants profile metered lent l .answer .month) ≡ settleCall (monthOf k) plants profile metered lent l .answer .month
-unfolding settleKept settleCall handedBack outcome
+unfolding settleKept settledKept settleCall handedBack outcome
 settled k plants profile metered lent l = by (settleNumber (monthOf k) plants profile metered lent l) refl
   where
     by : (n : ℕ) → settleNumber (monthOf k) plants profile metered lent l ≡ n
@@ -173,7 +150,7 @@ balanced k l = by (balanceNumber (monthOf k) l) refl
 
 stated : (k : KeptMonth) (plants : List Plant) (l : Ledger) (lent : List ℕ)
     → monthOf (statementKept k plants l lent .answer .month) ≡ statementCall (monthOf k) plants l lent .answer .month
-unfolding statementKept statementCall outcome
+unfolding statementKept statedKept statementCall outcome
 stated k plants l lent = by (statementNumber (monthOf k) plants l (length lent)) refl
   where
     by : (n : ℕ) → statementNumber (monthOf k) plants l (length lent) ≡ n

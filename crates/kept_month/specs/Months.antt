@@ -8,6 +8,10 @@ use Rattle.lists.specs.Questions.{outcome}
 use Rattle.hour.specs.declared.Plant.{Plant}
 use Rattle.ledger.specs.Ledger.{Ledger}
 use Rattle.month.specs.declared.Month.{Month}
+use Rattle.month.specs.declared.Opened.{Opened}
+use Rattle.month.specs.declared.Settled.{Settled}
+use Rattle.month.specs.declared.Stated.{Stated}
+use Rattle.month.specs.declared.Sized.{Sized}
 use Rattle.month.specs.declared.Stage.{Stage}
 use Rattle.month.specs.declared.Stage.the-variants.{Blank, Open, Closed}
 use Rattle.month.specs.Calls.{openCall, settleCall, balanceCall, closeCall}
@@ -40,6 +44,30 @@ keptOf m = record { stage = stageNumber (m .stage); plants = m .plants; periods 
 unfoldable pub handedBack : ℕ → KeptMonth → Month → KeptMonth
 handedBack number k m = outcome number (keptOf m) (λ _. k)
 
+-- open's answer, as C gets it
+unfoldable pub openedKept : KeptMonth → Opened → KeptEnd
+openedKept k r = record { number = r .number; month = handedBack (r .number) k (r .month) }
+
+-- settle's answer, as C gets it
+unfoldable pub settledKept : KeptMonth → Settled → KeptSettle
+settledKept k r =
+    record {
+      number = r .number;
+      month = handedBack (r .number) k (r .month);
+      secondary = r .secondary;
+      guarantees = r .guarantees;
+      «cover_table» = r .«cover_table»;
+      «secondary_table» = r .«secondary_table»;
+    }
+
+-- the statement's answer, as C gets it; its month is the caller's own
+unfoldable pub statedKept : KeptMonth → Stated → KeptStated
+statedKept k r = record { number = r .number; month = k; length = r .length }
+
+-- the sizing call's answer, as C gets it; its month is the caller's own
+unfoldable pub sizedKept : KeptMonth → Sized → KeptSized
+sizedKept k r = record { number = r .number; month = k; size = r .size }
+
 -- open: the answer, and the ledger afterwards
 pub record OpenKeptEnd : Type 0 where
   pub answer : KeptEnd
@@ -48,10 +76,7 @@ pub record OpenKeptEnd : Type 0 where
 unfoldable pub openKept : KeptMonth → List Plant → List ℕ → ℕ → Ledger → OpenKeptEnd
 openKept k plants profile tariff l =
     let r = openCall (monthOf k) plants profile tariff l in
-    record {
-      answer = record { number = r .answer .number; month = handedBack (r .answer .number) k (r .answer .month) };
-      ledger = r .ledger;
-    }
+    record { answer = openedKept k (r .answer); ledger = r .ledger }
 
 -- settle: the answer, and the allotment list and the ledger afterwards
 pub record SettleKeptEnd : Type 0 where
@@ -62,18 +87,7 @@ pub record SettleKeptEnd : Type 0 where
 unfoldable pub settleKept : KeptMonth → List Plant → List ℕ → List ℕ → List ℕ → Ledger → SettleKeptEnd
 settleKept k plants profile metered lent l =
     let r = settleCall (monthOf k) plants profile metered lent l in
-    record {
-      answer = record {
-        number = r .answer .number;
-        month = handedBack (r .answer .number) k (r .answer .month);
-        secondary = r .answer .secondary;
-        guarantees = r .answer .guarantees;
-        «cover_table» = r .answer .«cover_table»;
-        «secondary_table» = r .answer .«secondary_table»;
-      };
-      allotment = r .allotment;
-      ledger = r .ledger;
-    }
+    record { answer = settledKept k (r .answer); allotment = r .allotment; ledger = r .ledger }
 
 -- close; the ledger has no part in it
 unfoldable pub closeKept : KeptMonth → KeptEnd
@@ -93,7 +107,7 @@ pub record StatementKeptEnd : Type 0 where
 unfoldable pub statementKept : KeptMonth → List Plant → Ledger → List ℕ → StatementKeptEnd
 statementKept k plants l lent =
     let r = statementCall (monthOf k) plants l lent in
-    record { answer = record { number = r .answer .number; month = k; length = r .answer .length }; bytes = r .bytes }
+    record { answer = statedKept k (r .answer); bytes = r .bytes }
 
 -- statement_size, which changes no month: number and size are a sizing call's inside, whose size is free in its range
 pub record SizeKept (k : KeptMonth) (plants : List Plant) (l : Ledger) (r : KeptSized) : Type 0 where

@@ -1,12 +1,13 @@
 // The month as a C program keeps it, and its calls. A month with an enum cannot cross: C keeps one whose stage is a number.
 use month::Month;
+use month::Opened;
+use month::Settled;
+use month::Sized;
 use month::Stage;
+use month::Stated;
 use transfer::Table;
 ghost use mathlib.Core.Path.{_≡_};
-ghost use mathlib.Core.List.{List};
-ghost use Rattle.hour.specs.declared.Plant.{Plant};
-ghost use Rattle.records.specs.Records.{Held};
-ghost use Rattle.kept_month.specs.Months.{stageOf, stageNumber, monthOf, keptOf, handedBack, OpenKeptEnd, openKept, SettleKeptEnd, settleKept, closeKept, balanceKept, StatementKeptEnd, statementKept, SizeKept};
+ghost use Rattle.kept_month.specs.Months.{stageOf, stageNumber, monthOf, keptOf, handedBack, openedKept, settledKept, closeKept, balanceKept, statedKept, sizedKept};
 
 // A month as the caller keeps it. Stage: 0 blank, 1 open, 2 closed; any other number is read as blank.
 #[repr(C)]
@@ -121,19 +122,10 @@ fn handed_back(number: u64, kept: KeptMonth, month: Month) -> KeptMonth
     kept_of(month)
 }
 
-// Open on the columns of n records.
-pub fn open_kept(
-    month: KeptMonth,
-    n: usize,
-    c: [u64; 2560],
-    profile: &[u64],
-    tariff: u64,
-    allotted: &mut [u64],
-    accounts: &mut [i64],
-) -> KeptEnd
-    ensures { λ r. ⌜ ((plants : List Plant) → Held plants n c → _≡_ {A = OpenKeptEnd} (record { answer = r; ledger = record { allotted = now (allotted .exit); accounts = now (accounts .exit) } }) (openKept month plants (now (profile .entry)) tariff (record { allotted = now (allotted .entry); accounts = now (accounts .entry) }))) ⌝ }
+// Open's answer as C gets it.
+pub fn opened_kept(month: KeptMonth, opened: Opened) -> KeptEnd
+    ensures { λ r. ⌜ r ≡ openedKept month opened ⌝ }
 {
-    let opened = month_of(month).open_table(n, c, profile, tariff, allotted, accounts);
     let after = opened.month;
     KeptEnd {
         number: opened.number,
@@ -141,28 +133,10 @@ pub fn open_kept(
     }
 }
 
-// Settle on the columns of n records.
-pub fn settle_kept(
-    month: KeptMonth,
-    n: usize,
-    c: [u64; 2560],
-    profile: &[u64],
-    metered: &[u64],
-    allotment: &mut [u64],
-    allotted: &mut [u64],
-    accounts: &mut [i64],
-) -> KeptSettle
-    ensures { λ r. ⌜ ((plants : List Plant) → Held plants n c → _≡_ {A = SettleKeptEnd} (record { answer = r; allotment = now (allotment .exit); ledger = record { allotted = now (allotted .exit); accounts = now (accounts .exit) } }) (settleKept month plants (now (profile .entry)) (now (metered .entry)) (now (allotment .entry)) (record { allotted = now (allotted .entry); accounts = now (accounts .entry) }))) ⌝ }
+// Settle's answer as C gets it.
+pub fn settled_kept(month: KeptMonth, settled: Settled) -> KeptSettle
+    ensures { λ r. ⌜ r ≡ settledKept month settled ⌝ }
 {
-    let settled = month_of(month).settle_table(
-        n,
-        c,
-        profile,
-        metered,
-        allotment,
-        allotted,
-        accounts,
-    );
     let after = settled.month;
     let cover_table = settled.cover_table;
     let secondary_table = settled.secondary_table;
@@ -203,18 +177,10 @@ pub fn balance_kept(month: KeptMonth, allotted: &[u64], accounts: &[i64]) -> Kep
     }
 }
 
-// The statement on the columns of n records.
-pub fn statement_kept(
-    month: KeptMonth,
-    n: usize,
-    c: [u64; 2560],
-    allotted: &[u64],
-    accounts: &[i64],
-    bytes: &mut [u8],
-) -> KeptStated
-    ensures { λ r. ⌜ ((plants : List Plant) → Held plants n c → _≡_ {A = StatementKeptEnd} (record { answer = r; bytes = now (bytes .exit) }) (statementKept month plants (record { allotted = now (allotted .entry); accounts = now (accounts .entry) }) (now (bytes .entry)))) ⌝ }
+// The statement's answer as C gets it.
+pub fn stated_kept(month: KeptMonth, stated: Stated) -> KeptStated
+    ensures { λ r. ⌜ r ≡ statedKept month stated ⌝ }
 {
-    let stated = month_of(month).statement_table(n, c, allotted, accounts, bytes);
     KeptStated {
         number: stated.number,
         month,
@@ -222,17 +188,10 @@ pub fn statement_kept(
     }
 }
 
-// The size on the columns of n records.
-pub fn size_kept(
-    month: KeptMonth,
-    n: usize,
-    c: [u64; 2560],
-    allotted: &[u64],
-    accounts: &[i64],
-) -> KeptSized
-    ensures { λ r. ⌜ ((plants : List Plant) → Held plants n c → SizeKept month plants (record { allotted = now (allotted .entry); accounts = now (accounts .entry) }) r) ⌝ }
+// The sizing call's answer as C gets it.
+pub fn sized_kept(month: KeptMonth, sized: Sized) -> KeptSized
+    ensures { λ r. ⌜ r ≡ sizedKept month sized ⌝ }
 {
-    let sized = month_of(month).size_table(n, c, allotted, accounts);
     KeptSized {
         number: sized.number,
         month,

@@ -6,10 +6,15 @@ use kept_month::KeptMonth;
 use kept_month::KeptSettle;
 use kept_month::KeptSized;
 use kept_month::KeptStated;
+use kept_month::month_of;
+use kept_month::opened_kept;
+use kept_month::settled_kept;
+use kept_month::sized_kept;
+use kept_month::stated_kept;
 ghost use mathlib.Core.Path.{_≡_};
 ghost use Rattle.kept_month.specs.Months.{OpenKeptEnd, openKept, SettleKeptEnd, settleKept, closeKept, balanceKept, StatementKeptEnd, statementKept, SizeKept};
 
-// kept_month::open_kept on the records' columns.
+// Month::open.
 #[no_mangle]
 pub extern "C" fn iolwarch_open(
     month: KeptMonth,
@@ -21,12 +26,12 @@ pub extern "C" fn iolwarch_open(
 ) -> KeptEnd
     ensures { λ r. ⌜ _≡_ {A = OpenKeptEnd} (record { answer = r; ledger = record { allotted = now (allotted .exit); accounts = now (accounts .exit) } }) (openKept month (now (plants .entry)) (now (profile .entry)) tariff (record { allotted = now (allotted .entry); accounts = now (accounts .entry) })) ⌝ }
 {
-    let n = plants.len();
-    let c = records::columns(plants);
-    kept_month::open_kept(month, n, c, profile, tariff, allotted, accounts)
+    let meant = month_of(month);
+    let opened = meant.open(plants, profile, tariff, allotted, accounts);
+    opened_kept(month, opened)
 }
 
-// kept_month::settle_kept on the records' columns.
+// Month::settle.
 #[no_mangle]
 pub extern "C" fn iolwarch_settle(
     month: KeptMonth,
@@ -39,9 +44,9 @@ pub extern "C" fn iolwarch_settle(
 ) -> KeptSettle
     ensures { λ r. ⌜ _≡_ {A = SettleKeptEnd} (record { answer = r; allotment = now (allotment .exit); ledger = record { allotted = now (allotted .exit); accounts = now (accounts .exit) } }) (settleKept month (now (plants .entry)) (now (profile .entry)) (now (metered .entry)) (now (allotment .entry)) (record { allotted = now (allotted .entry); accounts = now (accounts .entry) })) ⌝ }
 {
-    let n = plants.len();
-    let c = records::columns(plants);
-    kept_month::settle_kept(month, n, c, profile, metered, allotment, allotted, accounts)
+    let meant = month_of(month);
+    let settled = meant.settle(plants, profile, metered, allotment, allotted, accounts);
+    settled_kept(month, settled)
 }
 
 // kept_month::close_kept.
@@ -64,7 +69,7 @@ pub extern "C" fn iolwarch_balance(
     kept_month::balance_kept(month, allotted, accounts)
 }
 
-// kept_month::statement_kept on the records' columns.
+// Month::statement.
 #[no_mangle]
 pub extern "C" fn iolwarch_statement(
     month: KeptMonth,
@@ -75,12 +80,12 @@ pub extern "C" fn iolwarch_statement(
 ) -> KeptStated
     ensures { λ r. ⌜ _≡_ {A = StatementKeptEnd} (record { answer = r; bytes = now (bytes .exit) }) (statementKept month (now (plants .entry)) (record { allotted = now (allotted .entry); accounts = now (accounts .entry) }) (now (bytes .entry))) ⌝ }
 {
-    let n = plants.len();
-    let c = records::columns(plants);
-    kept_month::statement_kept(month, n, c, allotted, accounts, bytes)
+    let meant = month_of(month);
+    let stated = meant.statement(plants, allotted, accounts, bytes);
+    stated_kept(month, stated)
 }
 
-// kept_month::size_kept on the records' columns.
+// Month::statement_size.
 #[no_mangle]
 pub extern "C" fn iolwarch_statement_size(
     month: KeptMonth,
@@ -90,7 +95,7 @@ pub extern "C" fn iolwarch_statement_size(
 ) -> KeptSized
     ensures { λ r. ⌜ SizeKept month (now (plants .entry)) (record { allotted = now (allotted .entry); accounts = now (accounts .entry) }) r ⌝ }
 {
-    let n = plants.len();
-    let c = records::columns(plants);
-    kept_month::size_kept(month, n, c, allotted, accounts)
+    let meant = month_of(month);
+    let sized = meant.statement_size(plants, allotted, accounts);
+    sized_kept(month, sized)
 }

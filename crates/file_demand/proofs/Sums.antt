@@ -1,202 +1,111 @@
--- A file is settled as its lines say, and adds up, or it is refused. Assumes nothing.
+-- A whole file is settled and adds up, and any other is refused. Assumes nothing.
 use mathlib.Core.Path.{_≡_, refl, sym, ap, ap₂, subst, _∙_}
-use mathlib.Core.Bool.{Bool, true, false, cond}
-use mathlib.Core.List.{List, [], _∷_, _++_, map, append-assoc, append-nil}
-use Prim.Native.Nat.{ℕ, suc, _+_, _-_, _≤_, _<_}
+use mathlib.Core.List.{List, [], _∷_, _++_, map, head-eq-of-cons-eq, tail-eq-of-cons-eq}
+use Prim.Native.Nat.{ℕ, _+_, _≤_, _<_}
 use native.Mathlib.Omega.{arith}
 use native.Mathlib.Nat.{sub-zero}
-use borrow.Author.Tests.{ltb-true, ltb-false, eqb-true, eqb-false}
-use lib.Dec.{eqb, ltb}
-use lib.ListN.{length, getD, replicate, length-append}
-use Rattle.lists.proofs.Questions.{both}
+use borrow.Author.Tests.{eqb-true, eq-eqb}
+use lib.ListN.{length, getD, replicate, length-map}
+use Rattle.lists.proofs.Questions.{accepted, asked, parted}
 use Rattle.lines.specs.Reading.{lineStart}
 use Rattle.hour.specs.declared.Plant.{Plant}
-use Rattle.month.specs.declared.Month.{Month}
+use Rattle.ledger.specs.Ledger.{Ledger}
+use Rattle.statement.specs.Statement.{line, plantLine, plantLines, totalLine, statementText}
 use Rattle.questions.specs.Questions.{sizesNumber}
-use Rattle.questions.proofs.Asked as asked
-use Rattle.month.specs.Calls.{OpenEnd}
-use Rattle.file_lines.specs.File.{FileLine, whole, lines, Sizes, begins, gathers, figuresOf, plantOf, inTurn, begun, opened, taken, printed, following, settledFile}
+use Rattle.questions.proofs.Asked as question
+use Rattle.month.specs.Questions.{openNumber}
+use Rattle.demand.specs.Tally.{number, entries}
+use Rattle.file_lines.specs.File.{FileLine, whole, lines, Progress, begins, figuresOf, inTurn, begun, taken, refusal, printed, following, settledFile}
 use Rattle.file_lines.specs.State.{isRefused}
-use Rattle.file_demand.specs.Sums.{sizesIn, plantsIn, profileIn, meteredIn, Stated, Rising, SettledAs, Outcome, refused, Outcome·holds}
-use Rattle.file_demand.proofs.Followed.{on, by-number, by-line, no-lines, one-line, rising-as}
-use Rattle.file_demand.proofs.Metered.{Metered, metering, isOpened, opened-month, states}
+use Rattle.file_demand.specs.Sums.{sizesIn, plantsIn, profileIn, meteredIn, Readable, WholeFile, SettledAs, SettledAs·holds, Outcome, settled, refused, Outcome·holds}
+use Rattle.file_lines.proofs.Opened.{open-number}
+use Rattle.file_demand.proofs.Followed as followed
+use Rattle.file_demand.proofs.Followed.{Followed, holds, on, by-number, IsRead, by-line, line-taken, next-line, count}
+use Rattle.file_demand.proofs.Worked.{textOf, states}
+use Rattle.file_demand.proofs.Gathered.{Planted, planting, planted}
 
--- ---- H lines
+-- ---- a whole file is settled
 
-record Profiled (s : Sizes) (plants : List Plant) (profile : List ℕ) (ls : List FileLine) (text : List ℕ) : Type 0 where
-  hs : List (List ℕ)
-  gs : List (List ℕ)
-  isLines : ls ≡ map whole (hs ++ gs)
-  profiles : Rising 3 (length profile + 1) (s .periods - length profile) hs
-  meters : Rising 4 1 (s .periods) gs
-  stated : Stated plants (profile ++ profileIn hs) (s .tariff) (meteredIn gs) text
+module _ {ls : List FileLine} (w : WholeFile ls) where
+  abbrev plants : List Plant
+  plants = plantsIn (w .plantLines)
 
-abbrev longer : List ℕ → FileLine → List ℕ
-longer profile x = profile ++ (getD (figuresOf (x .bytes)) 1 0 ∷ [])
+  abbrev profile : List ℕ
+  profile = profileIn (w .profileLines)
 
--- an H line in turn: it is the last, and the month is opened, or more follow
-module _ (s : Sizes) (plants : List Plant) (profile : List ℕ) (low : length profile < s .periods) (x : FileLine) (ls : List FileLine)
-    (w : x ≡ whole (x .bytes)) (t : (lineStart (x .bytes) ≡ 3) × (getD (figuresOf (x .bytes)) 0 0 ≡ length profile + 1)) where
-  abbrev more : List ℕ
-  more = longer profile x
+  abbrev text : List ℕ
+  text = textOf plants profile (sizesIn (w .first) .tariff) (meteredIn (w .meterLines))
 
-  one-more : length more ≡ length profile + 1
-  one-more = length-append profile (getD (figuresOf (x .bytes)) 1 0 ∷ [])
+  -- 2 to 4 of the first line are those of the open
+  sizes-zero : sizesNumber (sizesIn (w .first) .plants) (sizesIn (w .first) .periods) (sizesIn (w .first) .tariff) ≡ 0
+  unfolding openNumber number entries
+  sizes-zero =
+      let z = sym (open-number _ _ _ _ _) ∙ head-eq-of-cons-eq (w .accepted) in
+      let rows : length plants ≡ sizesIn (w .first) .plants = length-map (w .plantLines) _ ∙ count (w .plantLines) _ 2 (w .rows) in
+      let hours : length profile ≡ sizesIn (w .first) .periods = length-map (w .profileLines) _ ∙ count (w .profileLines) _ 3 (w .profile .starts) in
+      ap₂ (λ p h. sizesNumber p h (sizesIn (w .first) .tariff)) (sym rows) (sym hours) ∙ parted _ _ (asked _ _ _ tt z .1) .0
 
-  abbrev done : OpenEnd
-  done = isOpened plants more (s .tariff)
+  is-text : following 0 begins ls ≡ text
+  unfolding isRefused inTurn taken begun
+  is-text =
+      let given = w .plantLines ++ (w .profileLines ++ w .meterLines) in
+      let r = subst (λ (l : List FileLine). Readable l) (w .isFile) (w .readable) in
+      ap (following 0 begins) (w .isFile)
+      ∙ line-taken 0 begins (w .first) (map whole given) refl (head-eq-of-cons-eq r) (eq-eqb _ _ (w .begins))
+      ∙ ap (λ (p : Progress). following 1 p (map whole given)) (accepted _ _ _ sizes-zero)
+      ∙ planted (sizesIn (w .first)) (question.sizes _ _ _ _ refl sizes-zero .somePeriods) 1 [] (w .plantLines) (w .profileLines) (w .meterLines)
+      (w .rows ∙ ap (λ (n : ℕ). replicate n 2) (sym (sub-zero (sizesIn (w .first) .plants)))) (w .profile) (w .meters) (tail-eq-of-cons-eq r) (w .accepted)
 
-  last-hour : length more ≡ s .periods → done .answer .number ≡ 0 → {text : List ℕ}
-      → Metered plants more (done .answer .month) (done .ledger) ls text → Profiled s plants profile (x ∷ ls) text
-  last-hour e z r =
-      record {
-        hs = x .bytes ∷ [];
-        gs = r .gs;
-        isLines = ap₂ (λ a b. a ∷ b) w (r .isLines);
-        profiles = rising-as refl (omega (arith, e, one-more)) (one-line (t .0) (t .1) (no-lines 3 (length profile + 1 + 1)));
-        meters =
-            rising-as refl (omega (arith, e))
-            (subst (λ (n : Month). Rising 4 (n .due) (n .periods + 1 - n .due) (r .gs)) (opened-month plants more (s .tariff) z) (r .meters));
-        stated = states plants more (s .tariff) z r;
-      }
+  is-settled : SettledAs w (following 0 begins ls)
+  is-settled = states plants profile (sizesIn (w .first) .tariff) (meteredIn (w .meterLines)) (w .accepted) (following 0 begins ls) is-text
 
-  more-hours : {text : List ℕ} → Profiled s plants more ls text → Profiled s plants profile (x ∷ ls) text
-  more-hours {text} r =
-      record {
-        hs = x .bytes ∷ r .hs;
-        gs = r .gs;
-        isLines = ap₂ (λ a b. a ∷ b) w (r .isLines);
-        profiles =
-            rising-as refl (omega (arith, low, one-more))
-            (one-line (t .0) (t .1) (rising-as (ap (λ (n : ℕ). n + 1) one-more) refl (r .profiles)));
-        meters = r .meters;
-        stated = subst (λ (h : List ℕ). Stated plants h (s .tariff) (meteredIn (r .gs)) text) (append-assoc profile (getD (figuresOf (x .bytes)) 1 0 ∷ []) (profileIn (r .hs))) (r .stated);
-      }
+pub whole-settled : SettledAs·holds
+unfolding settledFile
+whole-settled bytes w = is-settled w
 
-  by-last : (k : ℕ) (b : Bool) → eqb (length more) (s .periods) ≡ b
-      → (length more < s .periods → Outcome (Profiled s plants more ls) (following k (gathers s plants more) ls))
-      → Outcome (Profiled s plants profile (x ∷ ls)) (following k (cond b (opened k s plants more) (gathers s plants more)) ls)
-  unfolding opened
-  by-last k true e rest =
-      by-number _ (done .answer .number) k _ ls (λ z. on (last-hour (eqb-true (length more) (s .periods) e) z) (metering k plants more _ _ ls))
-  by-last k false e rest = on more-hours (rest (omega (arith, low, one-more, eqb-false (length more) (s .periods) e)))
+-- ---- any other is refused: a statement begins with `A` or `T`, and a refusal with `R`
 
--- the plant table is whole, so that an H line is due
-module _ (s : Sizes) (plants : List Plant) (full : ltb (length plants) (s .plants) ≡ false) where
-  one-hour : (k : ℕ) (profile : List ℕ) → length profile < s .periods → (x : FileLine) (ls : List FileLine)
-      → (length (longer profile x) < s .periods → Outcome (Profiled s plants (longer profile x) ls) (following (k + 1) (gathers s plants (longer profile x)) ls))
-      → x ≡ whole (x .bytes) → inTurn (gathers s plants profile) (lineStart (x .bytes)) (figuresOf (x .bytes)) ≡ true
-      → Outcome (Profiled s plants profile (x ∷ ls)) (following (k + 1) (taken (k + 1) (gathers s plants profile) (figuresOf (x .bytes))) ls)
-  unfolding inTurn taken
-  one-hour k profile low x ls rest w t =
-      let a = both (eqb (lineStart (x .bytes)) 3) _ (rw full at t) in
-      rw full
-      (by-last s plants profile low x ls w (eqb-true (lineStart (x .bytes)) 3 (a .0), eqb-true (getD (figuresOf (x .bytes)) 0 0) (length profile + 1) (a .1)) (k + 1)
-      (eqb (length (longer profile x)) (s .periods)) refl rest)
+statement-begins : (n : ℕ) (plants : List Plant) (l : Ledger) (line number : ℕ) → statementText n plants l ≡ refusal line number → ⊥
+unfolding statementText plantLines plantLine totalLine line refusal
+statement-begins n [] l j k e = omega (arith, ap (λ (t : List ℕ). getD t 0 0) e)
+statement-begins n (p ∷ ps) l j k e = omega (arith, ap (λ (t : List ℕ). getD t 0 0) e)
 
-  profiling : (k : ℕ) (profile : List ℕ) → length profile < s .periods → (ls : List FileLine)
-      → Outcome (Profiled s plants profile ls) (following k (gathers s plants profile) ls)
-  unfolding following printed isRefused
-  profiling k profile low [] = refused (k + 1) 31 refl
-  profiling k profile low (x ∷ ls) =
-      by-line _ k (gathers s plants profile) x ls (one-hour k profile low x ls (λ h. profiling (k + 1) (longer profile x) h ls)) refl
-
--- ---- P lines
-
-record Planted (s : Sizes) (plants : List Plant) (ls : List FileLine) (text : List ℕ) : Type 0 where
-  ps : List (List ℕ)
-  hs : List (List ℕ)
-  gs : List (List ℕ)
-  isLines : ls ≡ map whole (ps ++ (hs ++ gs))
-  rows : map lineStart ps ≡ replicate (s .plants - length plants) 2
-  profiles : Rising 3 1 (s .periods) hs
-  meters : Rising 4 1 (s .periods) gs
-  stated : Stated (plants ++ plantsIn ps) (profileIn hs) (s .tariff) (meteredIn gs) text
-
--- no P line more
-all-rows : (s : Sizes) (plants : List Plant) (ls : List FileLine) → s .plants ≤ length plants → {text : List ℕ} → Profiled s plants [] ls text → Planted s plants ls text
-all-rows s plants ls h {text} r =
-    record {
-      ps = [];
-      hs = r .hs;
-      gs = r .gs;
-      isLines = r .isLines;
-      rows = ap (λ (n : ℕ). replicate n 2) none-left;
-      profiles = rising-as refl (omega arith) (r .profiles);
-      meters = r .meters;
-      stated = subst (λ (p : List Plant). Stated p (profileIn (r .hs)) (s .tariff) (meteredIn (r .gs)) text) (sym (append-nil plants)) (r .stated);
-    }
-  where
-    none-left : 0 ≡ s .plants - length plants
-    none-left = omega (arith, h)
-
-abbrev wider : List Plant → FileLine → List Plant
-wider plants x = plants ++ (plantOf (figuresOf (x .bytes)) ∷ [])
-
--- a P line in turn
-more-rows : (s : Sizes) (plants : List Plant) → length plants < s .plants → (x : FileLine) (ls : List FileLine) → x ≡ whole (x .bytes) → lineStart (x .bytes) ≡ 2
-    → {text : List ℕ} → Planted s (wider plants x) ls text → Planted s plants (x ∷ ls) text
-more-rows s plants h x ls w is2 {text} r =
-    record {
-      ps = x .bytes ∷ r .ps;
-      hs = r .hs;
-      gs = r .gs;
-      isLines = ap₂ (λ a b. a ∷ b) w (r .isLines);
-      rows = ap₂ (λ a b. a ∷ b) is2 (r .rows) ∙ ap (λ (n : ℕ). replicate n 2) one-less;
-      profiles = r .profiles;
-      meters = r .meters;
-      stated = subst (λ (p : List Plant). Stated p (profileIn (r .hs)) (s .tariff) (meteredIn (r .gs)) text)
-          (append-assoc plants (plantOf (figuresOf (x .bytes)) ∷ []) (plantsIn (r .ps))) (r .stated);
-    }
-  where
-    one-less : suc (s .plants - length (wider plants x)) ≡ s .plants - length plants
-    one-less = omega (arith, h, length-append plants (plantOf (figuresOf (x .bytes)) ∷ []))
-
-module _ (s : Sizes) (some-period : 0 < s .periods) (plants : List Plant) (k : ℕ) (x : FileLine) (ls : List FileLine)
-    (rest : Outcome (Planted s (wider plants x) ls) (following (k + 1) (gathers s (wider plants x) []) ls)) where
-  one-row : (due : ltb (length plants) (s .plants) ≡ true) → x ≡ whole (x .bytes) → inTurn (gathers s plants []) (lineStart (x .bytes)) (figuresOf (x .bytes)) ≡ true
-      → Outcome (Planted s plants (x ∷ ls)) (following (k + 1) (taken (k + 1) (gathers s plants []) (figuresOf (x .bytes))) ls)
-  unfolding inTurn taken
-  one-row due w t =
-      rw due (on (more-rows s plants (ltb-true (length plants) (s .plants) due) x ls w (eqb-true (lineStart (x .bytes)) 2 (rw due at t))) rest)
-
-  by-rows : (b : Bool) → ltb (length plants) (s .plants) ≡ b → Outcome (Planted s plants (x ∷ ls)) (following k (gathers s plants []) (x ∷ ls))
-  unfolding isRefused
-  by-rows false full = on (all-rows s plants (x ∷ ls) (ltb-false (length plants) (s .plants) full)) (profiling s plants full k [] some-period (x ∷ ls))
-  by-rows true due = by-line _ k (gathers s plants []) x ls (one-row due) refl
-
-planting : (s : Sizes) → 0 < s .periods → (k : ℕ) (plants : List Plant) (ls : List FileLine) → Outcome (Planted s plants ls) (following k (gathers s plants []) ls)
-unfolding following printed
-planting s h k plants [] = refused (k + 1) 31 refl
-planting s h k plants (x ∷ ls) = by-rows s h plants k x ls (planting s h (k + 1) (wider plants x) ls) (ltb (length plants) (s .plants)) refl
-
--- ---- the first line
-
-begin : (x : FileLine) (ls : List FileLine) → x ≡ whole (x .bytes) → lineStart (x .bytes) ≡ 1 → {text : List ℕ}
-    → Planted (sizesIn (x .bytes)) [] ls text → SettledAs (x ∷ ls) text
+-- the first line
+begin : (x : FileLine) (ls : List FileLine) → IsRead x → lineStart (x .bytes) ≡ 1 → Planted (sizesIn (x .bytes)) [] ls → WholeFile (x ∷ ls)
 begin x ls w is1 r =
+    let all = next-line w (r .areLines) in
     record {
       first = x .bytes;
       plantLines = r .ps;
       profileLines = r .hs;
       meterLines = r .gs;
-      isFile = ap₂ (λ a b. a ∷ b) w (r .isLines);
+      isFile = all .isLines;
+      readable = all .readable;
       begins = is1;
       rows = r .rows ∙ ap (λ (n : ℕ). replicate n 2) (sub-zero (sizesIn (x .bytes) .plants));
       profile = r .profiles;
       meters = r .meters;
-      stated = r .stated;
+      accepted = r .accepts;
     }
 
-all-lines : (ls : List FileLine) → Outcome (SettledAs ls) (following 0 begins ls)
+refuses : (ls : List FileLine) (line number : ℕ) → 1 ≤ line → line ≤ length ls + 1 → 0 < number → following 0 begins ls ≡ refusal line number
+    → Outcome ls (following 0 begins ls)
+refuses ls k n low high some e = refused k n low high some e (λ w. statement-begins _ _ _ k n (sym (is-settled w .isStatement) ∙ e))
+
+all-lines : (ls : List FileLine) → Outcome ls (following 0 begins ls)
 unfolding following printed isRefused inTurn taken begun
-all-lines [] = refused 1 31 refl
+all-lines [] = refuses [] 1 31 (omega arith) (omega arith) (omega arith) refl
 all-lines (x ∷ ls) =
     let s = sizesIn (x .bytes) in
-    by-line _ 0 begins x ls
-    (λ w t. by-number _ (sizesNumber (s .plants) (s .periods) (s .tariff)) 1 _ ls
-    (λ z. on (begin x ls w (eqb-true (lineStart (x .bytes)) 1 t)) (planting s (asked.sizes _ _ _ _ refl z .somePeriods) 1 [] ls)))
-    refl
+    decided
+    (by-line 0 begins x ls
+    (λ w t. by-number (sizesNumber (s .plants) (s .periods) (s .tariff)) 1 _ ls
+    (λ z. on (begin x ls w (eqb-true (lineStart (x .bytes)) 1 t)) (planting s (question.sizes _ _ _ _ refl z .somePeriods) 1 [] ls)))
+    refl)
+  where
+    decided : Followed (WholeFile (x ∷ ls)) 1 ls (following 0 begins (x ∷ ls)) → Outcome (x ∷ ls) (following 0 begins (x ∷ ls))
+    decided (holds w) = settled w (is-settled w)
+    decided (followed.refused k n low high some e) = refuses (x ∷ ls) k n low (omega (arith, high)) some e
 
 pub either : Outcome·holds
 unfolding settledFile

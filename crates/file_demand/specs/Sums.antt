@@ -1,12 +1,12 @@
--- A file that is settled, from its bytes to the sums of demand 3: its lines, what they hold, the calls and the hours of its month, and how its
--- statement adds up. Assumes nothing.
+-- A whole file, from its bytes to the sums of demand 3: its lines, what they hold, the calls and the hours of its month, and how its statement
+-- adds up. It is settled, and any other is refused. Assumes nothing.
 use mathlib.Core.Path.{_≡_}
-use Prim.Native.Nat.{ℕ, _+_, _*_}
+use Prim.Native.Nat.{ℕ, _+_, _*_, _≤_, _<_}
 use mathlib.Core.List.{List, [], _∷_, _++_, map}
 use mathlib.Core.Option.{none, some}
 use lib.ListN.{length, drop, getD, replicate}
 use Rattle.lists.specs.Lists.{tableFrom}
-use Rattle.lines.specs.Reading.{lineStart}
+use Rattle.lines.specs.Reading.{lineStart, readNumber}
 use Rattle.hour.specs.declared.Plant.{Plant}
 use Rattle.hour.specs.Hour.{Hour, hourOf}
 use Rattle.ledger.specs.Ledger.{zeros}
@@ -46,6 +46,10 @@ fileCalls plants profile tariff metered = opens plants profile tariff ∷ hourCa
 abbrev pub unopened : List Plant → State
 unopened plants = record { month = blank; ledger = zeros (length plants) }
 
+-- 'A call is accepted when it answers number 0': all calls of a list are
+abbrev pub Accepted : State → List Call → Type 0
+Accepted s calls = map (λ (e : Entry). e .answered) (entries s calls) ≡ map (λ _. 0) calls
+
 -- the hours of the metered figures after some hours, the latest first
 unfoldable pub fileHours : List Plant → List ℕ → List Hour → List (List ℕ) → List Hour
 fileHours plants profile hs [] = hs
@@ -55,11 +59,9 @@ fileHours plants profile hs (g ∷ gs) = fileHours plants profile (hourOf plants
 abbrev pub tallyOf : ℕ → ℕ → List Hour → Tally
 tallyOf p tariff hs = record { figures = summed p tariff hs; tariff = tariff; count = length hs }
 
--- A text is the statement of the month of these values: no call of the file is refused; the statement is of the ledger that they leave, which is
--- the tally of the file's hours and adds up over them, as demand 3 says
+-- A text is the statement of the month of these values: of the ledger that the calls leave, which is the tally of the file's hours and adds up over
+-- them, as demand 3 says
 pub record Stated (plants : List Plant) (profile : List ℕ) (tariff : ℕ) (metered : List (List ℕ)) (text : List ℕ) : Type 0 where
-  pub accepted : let calls = fileCalls plants profile tariff metered in
-      map (λ (e : Entry). e .answered) (entries (unopened plants) calls) ≡ map (λ _. 0) calls
   pub isStatement : text ≡ statementText (length metered) plants (after (unopened plants) (fileCalls plants profile tariff metered) .ledger)
   pub isTally : tally none (entries (unopened plants) (fileCalls plants profile tariff metered))
       ≡ some (tallyOf (length plants) tariff (fileHours plants profile [] metered))
@@ -71,24 +73,38 @@ pub record Rising (start from n : ℕ) (ls : List (List ℕ)) : Type 0 where
   pub starts : map lineStart ls ≡ replicate n start
   pub periods : periodsIn ls ≡ tableFrom (λ (k : ℕ). k) from n
 
--- A file that is settled: '`MRE,1,periods,plants,TEO`; then P lines; H lines; G lines. Periods rise from 1', each line with its byte 10; and its text
--- is the statement of their month. Starts are numbered: 1 `MRE,1,`, 2 `P,`, 3 `H,`, 4 `G,`
-pub record SettledAs (ls : List FileLine) (text : List ℕ) : Type 0 where
+-- 'Reading a line': 26 to 30 are answered yes of each line, with 513 places for its figures
+abbrev pub Readable : List FileLine → Type 0
+Readable ls = map (λ (l : FileLine). readNumber (l .bytes) 513) ls ≡ map (λ _. 0) ls
+
+-- A file that meets the questions: '`MRE,1,periods,plants,TEO`; then P lines; H lines; G lines. Periods rise from 1', each line with its byte 10; each
+-- can be read, and no call is refused. Starts are numbered: 1 `MRE,1,`, 2 `P,`, 3 `H,`, 4 `G,`
+pub record WholeFile (ls : List FileLine) : Type 0 where
   pub first : List ℕ
   pub plantLines : List (List ℕ)
   pub profileLines : List (List ℕ)
   pub meterLines : List (List ℕ)
   pub isFile : ls ≡ map whole (first ∷ (plantLines ++ (profileLines ++ meterLines)))
+  pub readable : Readable ls
   pub begins : lineStart first ≡ 1
   pub rows : map lineStart plantLines ≡ replicate (sizesIn first .plants) 2
   pub profile : Rising 3 1 (sizesIn first .periods) profileLines
   pub meters : Rising 4 1 (sizesIn first .periods) meterLines
-  pub stated : Stated (plantsIn plantLines) (profileIn profileLines) (sizesIn first .tariff) (meteredIn meterLines) text
+  pub accepted : Accepted (unopened (plantsIn plantLines)) (fileCalls (plantsIn plantLines) (profileIn profileLines) (sizesIn first .tariff) (meteredIn meterLines))
 
--- A text of which a claim holds, or 'a refusal': there is no third
-pub data Outcome (claim : List ℕ → Type 0) (text : List ℕ) : Type 0 where
-  settled : claim text → Outcome claim text
-  refused : (line number : ℕ) → text ≡ refusal line number → Outcome claim text
+-- A text is the statement of a whole file
+abbrev pub SettledAs : {ls : List FileLine} → WholeFile ls → List ℕ → Type 0
+SettledAs w text = Stated (plantsIn (w .plantLines)) (profileIn (w .profileLines)) (sizesIn (w .first) .tariff) (meteredIn (w .meterLines)) text
+
+-- Every month file that meets the questions is worked to its end
+abbrev pub SettledAs·holds : Type 0
+SettledAs·holds = (bytes : List ℕ) (w : WholeFile (lines bytes)) → SettledAs w (settledFile bytes)
+
+-- What is printed for a file: the statement of a whole file; or, of a file that is not whole, 'a refusal', of one of its lines or of 'the line after
+-- the last', with a number other than 0. There is no third
+pub data Outcome (ls : List FileLine) (text : List ℕ) : Type 0 where
+  settled : (w : WholeFile ls) → SettledAs w text → Outcome ls text
+  refused : (line number : ℕ) → 1 ≤ line → line ≤ length ls + 1 → 0 < number → text ≡ refusal line number → (WholeFile ls → ⊥) → Outcome ls text
 
 abbrev pub Outcome·holds : Type 0
-Outcome·holds = (bytes : List ℕ) → Outcome (SettledAs (lines bytes)) (settledFile bytes)
+Outcome·holds = (bytes : List ℕ) → Outcome (lines bytes) (settledFile bytes)

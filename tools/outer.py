@@ -218,7 +218,9 @@ class Outer:
         for let, of in self.body:
             if isinstance(of, Value): self.abbrev(let.name, "ℕ", f"length ({of.name} .now)")
         self.say("  -- each parameter's machine value, and what it owns")
-        for p in self.params: self.abbrev(p.value, "Val", p.machine); self.abbrev(f"Own-{p.name}", "Fml", p.owned)
+        for p in self.params:
+            self.abbrev(p.value, "Val", p.machine)
+            if p.kind != "number": self.abbrev(f"Own-{p.name}", "Fml", p.owned)  # what a number owns is made anew at the exit
         self.abbrev("at", f"Vals f.signature {self.κs}", tuple_of([f"{p.value} ∷ []" for p in self.params]))
         self.abbrev("bound", f"walkOf 𝓤 H A {self.clauses} .Ghost", f"(({self.κs}, {self.qs}, tt, {self.named}, at), tt)")
         self.abbrev("Post", "Val → SProp 𝓤", f"walkOf 𝓤 H A {self.clauses} .post bound")

@@ -5,14 +5,11 @@ use Prim.Native.Nat.{ℕ, zero, suc}
 use native.Mathlib.Omega.{arith}
 use Rattle.lists.specs.Questions.{outcome}
 use Rattle.lists.proofs.Questions.{refuses, accepts}
-use Rattle.month.specs.declared.Month.{Month}
 use Rattle.file_lines.specs.declared.MonthFile.{MonthFile}
 use Rattle.file_calls.specs.declared.FeedAnswer.{FeedAnswer}
 use Rattle.file_calls.specs.declared.FinishAnswer.{FinishAnswer}
 use Rattle.file_calls.specs.Checking.{FeedLists, FedAny, FinishLists, FinishedAny}
 use Rattle.kept_file.specs.declared.KeptFile.{KeptFile}
-use Rattle.kept_file.specs.declared.KeptFed.{KeptFed}
-use Rattle.kept_month.specs.Months.{monthOf}
 use Rattle.kept_file.specs.Files.{fileOf, keptFileOf, fileBack, FileFed}
 use Rattle.kept_month.proofs.Kept.{months}
 

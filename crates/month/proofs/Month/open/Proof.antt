@@ -100,9 +100,6 @@ module _ {M : Type 1} (𝓤 : URA M) (H : Heap 𝓤) (A : Atoms 𝓤) (W : Given
   abbrev val-tariff : Val
   val-tariff = vint w64 tariff
 
-  abbrev Own-tariff : Fml
-  Own-tariff = u64 .own tariff (val-tariff ∷ [])
-
   abbrev val-allotted : Val
   val-allotted = sliceVal (allotted .ptr) (length (allotted .now))
 

@@ -25,13 +25,13 @@ use Rattle.file_lines.specs.State.{isRefused}
 use Rattle.file_demand.specs.Sums.{meteredIn, hourCalls, Accepted, Rising, Readable}
 use Rattle.file_lines.proofs.Opened.{number-itself}
 use Rattle.file_lines.proofs.Settled.{settle-number, onward, settle-month}
-use Rattle.file_demand.proofs.Followed.{Followed, holds, refused, on, later, by-number, IsRead, by-line, line-taken, AreLines, next-line, no-lines, one-line, after-one, rising-as}
+use Rattle.file_demand.proofs.Followed.{Followed, holds, refused, on, later, ended-early, by-number, IsRead, by-line, line-taken, AreLines, next-line, no-lines, one-line, after-one, rising-as}
 
 abbrev pub state : Month → Ledger → State
 state m l = record { month = m; ledger = l }
 
 -- the periods still due, each with its G line
-abbrev Due : Month → List (List ℕ) → Type 0
+abbrev pub Due : Month → List (List ℕ) → Type 0
 Due m gs = Rising 4 (m .due) (m .periods + 1 - m .due) gs
 
 pub record Metered (plants : List Plant) (profile : List ℕ) (m : Month) (l : Ledger) (ls : List FileLine) : Type 0 where
@@ -61,7 +61,7 @@ module _ (plants : List Plant) (profile : List ℕ) (m : Month) (l : Ledger) whe
   by-end : (k : ℕ) (b : Bool) → eqb (m .due) (m .periods + 1) ≡ b
       → Followed (Metered plants profile m l []) k [] (cond b (outcome (closeCall m .number) (statementText (closeCall m .month .due - 1) plants l) (refusal k)) (refusal (k + 1) 31))
   by-end k true e = by-close k (closeCall m .number) (eqb-true (m .due) (m .periods + 1) e) refl
-  by-end k false e = refused (k + 1) 31 (omega arith) (omega arith) (omega arith) refl
+  by-end k false e = ended-early k
 
 -- 20, of an accepted close
 close-due : (m : Month) → closeCall m .number ≡ 0 → m .due ≡ m .periods + 1

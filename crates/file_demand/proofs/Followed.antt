@@ -32,6 +32,10 @@ later (refused j n low high some e) = refused j n (omega (arith, low)) (omega (a
 pub stopped : {claim : Type 0} (k n : ℕ) (ls : List FileLine) → Followed claim k ls (following k (refuses k (suc n)) ls)
 stopped k n ls = refused k (suc n) (omega arith) (omega arith) (omega arith) (stays k k (suc n) ls)
 
+-- an early end
+pub ended-early : {claim : Type 0} (k : ℕ) → Followed claim k [] (refusal (k + 1) 31)
+ended-early k = refused (k + 1) 31 (omega arith) (omega arith) (omega arith) refl
+
 -- a call with a number, at the k-th line
 pub by-number : {claim : Type 0} (n k : ℕ) (p : Progress) (ls : List FileLine) → (n ≡ 0 → Followed claim k ls (following k p ls))
     → Followed claim k ls (following k (outcome n p (refuses k)) ls)

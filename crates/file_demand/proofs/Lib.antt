@@ -1,6 +1,7 @@
--- Lines read one after another, an open month settled by its G lines, the hours of accepted calls, H and P lines, and the whole file.
+-- Lines read one after another; G lines, H lines and P lines; the hours of accepted calls; the whole file.
 pub mod Followed
 pub mod Metered
 pub mod Worked
-pub mod Gathered
+pub mod Profiled
+pub mod Planted
 pub mod Sums

@@ -25,13 +25,13 @@ use Rattle.file_lines.specs.State.{isRefused}
 use Rattle.file_demand.specs.Sums.{meteredIn, hourCalls, Accepted, Rising, Readable}
 use Rattle.file_lines.proofs.Opened.{number-itself}
 use Rattle.file_lines.proofs.Settled.{settle-number, onward, settle-month}
-use Rattle.file_demand.proofs.Followed.{Followed, holds, refused, on, later, by-number, IsRead, by-line, line-taken, AreLines, next-line, no-lines, one-line, after-one, rising-as}
+use Rattle.file_demand.proofs.Followed.{Followed, holds, on, later, stopped, ended-early, by-number, IsRead, by-line, line-taken, AreLines, next-line, no-lines, one-line, after-one, rising-as}
 
-abbrev pub state : Month → Ledger → State
+abbrev state : Month → Ledger → State
 state m l = record { month = m; ledger = l }
 
 -- the periods still due, each with its G line
-abbrev Due : Month → List (List ℕ) → Type 0
+abbrev pub Due : Month → List (List ℕ) → Type 0
 Due m gs = Rising 4 (m .due) (m .periods + 1 - m .due) gs
 
 pub record Metered (plants : List Plant) (profile : List ℕ) (m : Month) (l : Ledger) (ls : List FileLine) : Type 0 where
@@ -54,14 +54,14 @@ module _ (plants : List Plant) (profile : List ℕ) (m : Month) (l : Ledger) whe
 
   by-close : (k n : ℕ) → m .due ≡ m .periods + 1 → closeCall m .number ≡ n
       → Followed (Metered plants profile m l []) k [] (outcome n (statementText (closeCall m .month .due - 1) plants l) (refusal k))
-  unfolding outcome
+  unfolding outcome following printed
   by-close k zero e z = holds (closes e z)
-  by-close k (suc n) e z = refused k (suc n) (omega arith) (omega arith) (omega arith) refl
+  by-close k (suc n) e z = stopped k n []
 
   by-end : (k : ℕ) (b : Bool) → eqb (m .due) (m .periods + 1) ≡ b
       → Followed (Metered plants profile m l []) k [] (cond b (outcome (closeCall m .number) (statementText (closeCall m .month .due - 1) plants l) (refusal k)) (refusal (k + 1) 31))
   by-end k true e = by-close k (closeCall m .number) (eqb-true (m .due) (m .periods + 1) e) refl
-  by-end k false e = refused (k + 1) 31 (omega arith) (omega arith) (omega arith) refl
+  by-end k false e = ended-early k
 
 -- 20, of an accepted close
 close-due : (m : Month) → closeCall m .number ≡ 0 → m .due ≡ m .periods + 1
@@ -78,13 +78,16 @@ module _ (plants : List Plant) (profile : List ℕ) (m : Month) (l : Ledger) (g 
   abbrev InTurn : Type 0
   InTurn = (lineStart g ≡ 4) × (m .due ≤ m .periods) × (getD (figuresOf g) 0 0 ≡ m .due)
 
-  is-turn : (eqb (lineStart g) 4 && (leb (m .due) (m .periods) && eqb (getD (figuresOf g) 0 0) (m .due))) ≡ true → InTurn
+  abbrev turn : Bool
+  turn = eqb (lineStart g) 4 && (leb (m .due) (m .periods) && eqb (getD (figuresOf g) 0 0) (m .due))
+
+  is-turn : turn ≡ true → InTurn
   is-turn e =
       let a = both (eqb (lineStart g) 4) _ e in
       let b = both (leb (m .due) (m .periods)) _ (a .1) in
       (eqb-true (lineStart g) 4 (a .0), leb-true (m .due) (m .periods) (b .0), eqb-true (getD (figuresOf g) 0 0) (m .due) (b .1))
 
-  turn-is : InTurn → (eqb (lineStart g) 4 && (leb (m .due) (m .periods) && eqb (getD (figuresOf g) 0 0) (m .due))) ≡ true
+  turn-is : InTurn → turn ≡ true
   turn-is t = rw (eq-eqb _ _ (t .0), le-leb _ _ (t .1), eq-eqb _ _ (t .2)) refl
 
   module _ (z : end .answer .number ≡ 0) (gs : List (List ℕ)) where

@@ -15,14 +15,14 @@ use Rattle.questions.specs.Questions.{sizesNumber}
 use Rattle.questions.proofs.Asked as question
 use Rattle.month.specs.Questions.{openNumber}
 use Rattle.demand.specs.Tally.{number, entries}
-use Rattle.file_lines.specs.File.{FileLine, whole, lines, Progress, begins, figuresOf, inTurn, begun, taken, refusal, printed, following, settledFile}
+use Rattle.file_lines.specs.File.{FileLine, whole, lines, Progress, begins, inTurn, begun, taken, refusal, printed, following, settledFile}
 use Rattle.file_lines.specs.State.{isRefused}
 use Rattle.file_demand.specs.Sums.{sizesIn, plantsIn, profileIn, meteredIn, Readable, WholeFile, SettledAs, SettledAs·holds, Outcome, settled, refused, Outcome·holds}
 use Rattle.file_lines.proofs.Opened.{open-number}
 use Rattle.file_demand.proofs.Followed as followed
 use Rattle.file_demand.proofs.Followed.{Followed, holds, on, by-number, IsRead, by-line, line-taken, next-line, count}
 use Rattle.file_demand.proofs.Worked.{textOf, states}
-use Rattle.file_demand.proofs.Gathered.{Planted, planting, planted}
+use Rattle.file_demand.proofs.Planted.{Planted, planting, planted}
 
 -- ---- a whole file is settled
 

@@ -1,5 +1,5 @@
 -- The calls of a file, all accepted: their tally is that of the file's hours, and adds up. Assumes nothing.
-use mathlib.Core.Path.{_≡_, refl, sym, ap, subst, _∙_}
+use mathlib.Core.Path.{_≡_, refl, ap, subst, _∙_}
 use mathlib.Core.List.{List, [], _∷_, head-eq-of-cons-eq, tail-eq-of-cons-eq}
 use mathlib.Core.Option.{Option, none, some}
 use Prim.Native.Nat.{ℕ, _+_, _-_, _*_}
@@ -10,7 +10,7 @@ use Rattle.lists.proofs.Questions.{accepted}
 use Rattle.hour.specs.declared.Plant.{Plant}
 use Rattle.hour.specs.Hour.{Hour, hourOf}
 use Rattle.statement.specs.Statement.{statementText}
-use Rattle.demand.specs.Tally.{Call, opens, settles, State, number, next, after, Entry, entries, Tally, tallied, tally, hoursAfter, hours, summed, IsTally, Left}
+use Rattle.demand.specs.Tally.{Call, opens, settles, State, next, after, Entry, entries, Tally, tallied, tally, hoursAfter, hours, summed, IsTally, Left}
 use Rattle.demand.proofs.Demand.{demand3}
 use Rattle.file_demand.specs.Sums.{hourCalls, fileCalls, unopened, Accepted, fileHours, tallyOf, Stated}
 

@@ -1,7 +1,7 @@
 #!/usr/bin/env python3
 """Writes the walk (Proof.antt) of a function that lends a slice of structs on, which the borrow checker does not cover:
 
-    tools/outer.py CONFIG.json PROOF.antt
+    python3 tools/outer.py CONFIG.json PROOF.antt
 
 Two shapes stand, and the tool knows them as one: lets, each the length of a list or a call, of which the last answers.
 

@@ -1,7 +1,7 @@
 -- Rows stand by submarket: sharing over a submarket's rows alone is sharing over its block. Assumes nothing.
 use mathlib.Core.Path.{_≡_, refl, sym, ap, ap₂, _∙_}
 use mathlib.Core.Bool.{true, false}
-use Prim.Native.Nat.{ℕ, zero, suc, _+_, _≤_}
+use Prim.Native.Nat.{ℕ, zero, suc, _+_, _≤_, _<_}
 use native.Mathlib.Omega.{arith}
 use native.Mathlib.Nat.{suc-inj, add-zero, zero-add}
 use mathlib.Core.List.{List, [], _∷_, _++_, append-nil, append-assoc}
@@ -9,7 +9,7 @@ use lib.Dec.{eqb}
 use lib.Seq.{drop-drop}
 use Rattle.lists.specs.Columns.{rowwise, _⊕_, joined, inside, within, at, totals}
 use Rattle.lists.specs.Lists.{sum}
-use Rattle.lists.proofs.Columns.{each, rowwise-append}
+use Rattle.lists.proofs.Columns.{_!_, each, rowwise-append}
 use Rattle.lists.proofs.Sums.{sum-append, sum-zeros}
 use Rattle.sharing.specs.Laws.{Lawful}
 use Rattle.sharing.specs.Sharing.{Rule}
@@ -197,6 +197,12 @@ pub record Blocks (subs : List ℕ) : Type 0 where
   pub rows₃ : ℕ
   pub rows₄ : ℕ
   pub are : subs ≡ replicate rows₁ 1 ++ (replicate rows₂ 2 ++ (replicate rows₃ 3 ++ replicate rows₄ 4))
+
+-- rows that stand by submarket are in submarkets 1 to 4
+pub placed-at : (s : ℕ) (subs : List ℕ) → Standing s subs → (i : ℕ) → i < length subs → (1 ≤ subs ! i) × (subs ! i ≤ 4)
+placed-at s [] e i h = absurd (omega arith)
+placed-at s (t ∷ subs) e zero h = (e .1, e .2)
+placed-at s (t ∷ subs) e (suc i) h = placed-at t subs (e .3) i (omega arith)
 
 -- the rows after one of submarket s
 record Later (s : ℕ) (subs : List ℕ) : Type 0 where

@@ -13,7 +13,7 @@ use borrow.Author.Needs.{needs}
 use mir.Syntax.{w64}
 use mir.Val.{Fits}
 use Rattle.lists.specs.Columns.{_⊖_, Below}
-use Rattle.lists.proofs.Columns.{_!_, at-⊖, length-rowwise}
+use Rattle.lists.proofs.Columns.{_!_, at-⊖, cond-same, length-rowwise}
 use Rattle.blocks.specs.Blocks.{Raised, inColumn, Room}
 
 pub split : (k n : ℕ) → (k < n) ⊎ (n ≤ k)
@@ -44,13 +44,9 @@ module _ {A : Type 0} (d : A) where
 pub same-or-not : (k i : ℕ) → (k ≡ i) ⊎ (k ≡ i → ⊥)
 same-or-not k i = ⊎-elim (λ h. inr (λ e. omega arith)) (λ h. ⊎-elim (λ g. inr (λ e. omega arith)) (λ g. inl (omega arith)) (split i k)) (split k i)
 
-nothing : (b : Bool) → _≡_ {A = ℕ} (cond b 0 0) 0
-nothing true = refl
-nothing false = refl
-
 -- a row without a part raises no figure
 pub no-rise : (column : ℕ) (parts : List ℕ) (i j : ℕ) → parts ! i ≡ 0 → inColumn column parts i j ≡ 0
-no-rise column parts i j e = rw e (nothing (eqb j column))
+no-rise column parts i j e = rw e (cond-same (eqb j column))
 
 -- a store that adds to one figure
 pub raised-set : (f h : ℕ → ℕ → ℕ) {before after : List ℕ} {at v : ℕ} (x : ℕ) → Raised f before after → at < length after → v ≡ after ! at + x

@@ -3,7 +3,7 @@ use mathlib.Core.Path.{_≡_, refl, sym, ap, _∙_, subst}
 use mathlib.Core.Bool.{Bool, true, false, cond}
 use mathlib.Core.Logic.{_⊎_, inl, inr, ⊎-elim}
 use mathlib.Core.List.{List, [], _∷_, map}
-use Prim.Native.Nat.{ℕ, zero, suc, _+_, _-_, _*_, _/_, _%_, _^_, _≤_, _<_, min}
+use Prim.Native.Nat.{ℕ, suc, _+_, _-_, _*_, _/_, _%_, _^_, _≤_, _<_, min}
 use native.Mathlib.Nat.{add-sub-cancel, le-of-eq}
 use native.Mathlib.Omega.{arith}
 use lib.Dec.{eqb}
@@ -12,7 +12,7 @@ use lib.ListN.{length, getD, List·getD-eq-default}
 use lib.Seq.{ext-getD}
 use Rattle.lists.specs.Lists.{sum, most, Within}
 use Rattle.lists.specs.Columns.{rowwise, _⊕_, _⊖_, _⊓_, Below, inside, within, four, at, totals, byRow, column}
-use Rattle.lists.proofs.Columns.{_!_, at-⊕, at-⊖, at-⊓, sum-le, at-within, below-four, each, Sited, length-rowwise}
+use Rattle.lists.proofs.Columns.{_!_, at-⊕, at-⊖, at-⊓, sum-le, at-within, below-four, each, four-le, Sited, length-rowwise}
 use Rattle.lists.proofs.Sums.{at-le-sum}
 use Rattle.lists.proofs.Rows.{Even, column-at, column-byRow, length-byRow}
 use Rattle.sharing.specs.Sharing.{share}
@@ -74,8 +74,8 @@ raised-all c cs n {before} {after} three even long r =
     go i j h = r .by i j h ∙ sym (at-⊕ before (byRow 0 (c ∷ cs)) (4 * i + j) ∙ ap (λ (x : ℕ). before ! (4 * i + j) + x) (place i j h))
 
 -- ---- a row's own part goes to the column of its own submarket
-own-column : (t x j : ℕ) → 1 ≤ t → t ≤ 4 → j < 4 → cond (eqb j ((0 ∷ 1 ∷ 2 ∷ 3 ∷ []) ! (t - 1))) x 0 ≡ cond (eqb t (j + 1)) x 0
-own-column t x j l h k = ap (λ (b : Bool). cond b x 0) (ap (eqb j) (itself t l h) ∙ same (eqb j (t - 1)) refl)
+own-column : (t x j : ℕ) → 1 ≤ t → t ≤ 4 → cond (eqb j ((0 ∷ 1 ∷ 2 ∷ 3 ∷ []) ! (t - 1))) x 0 ≡ cond (eqb t (j + 1)) x 0
+own-column t x j l h = ap (λ (b : Bool). cond b x 0) (ap (eqb j) (itself t l h) ∙ same (eqb j (t - 1)) refl)
   where
     itself : (t : ℕ) → 1 ≤ t → t ≤ 4 → (0 ∷ 1 ∷ 2 ∷ 3 ∷ []) ! (t - 1) ≡ t - 1
     itself = each (λ t. (0 ∷ 1 ∷ 2 ∷ 3 ∷ []) ! (t - 1) ≡ t - 1) refl refl refl refl
@@ -130,11 +130,7 @@ module _ (starts have want : List ℕ) (up : Rising starts (length want)) where
     sent-within s = le-of-eq (sent-is share-lawful subs have want four-have sited enough s)
 
     pub rows-below : Below (four (λ s. rowSum T (s - 1))) (have ⊖ own share subs have want)
-    rows-below zero = row-under share-lawful subs have want four-have sited enough 0
-    rows-below (suc zero) = row-under share-lawful subs have want four-have sited enough 1
-    rows-below (suc (suc zero)) = row-under share-lawful subs have want four-have sited enough 2
-    rows-below (suc (suc (suc zero))) = row-under share-lawful subs have want four-have sited enough 3
-    rows-below (suc (suc (suc (suc j)))) = omega arith
+    rows-below = let r = row-under share-lawful subs have want four-have sited enough in four-le (λ s. (have ⊖ own share subs have want) ! s) (r 0) (r 1) (r 2) (r 3)
 
     pub rest-is : have ⊖ own share subs have want ⊖ four (λ s. rowSum T (s - 1)) ≡ rest share subs have want
     unfolding rest
@@ -146,14 +142,14 @@ module _ (starts have want : List ℕ) (up : Rising starts (length want)) where
         sums : map sum T ≡ four (λ s. rowSum T (s - 1))
         sums = ap (map sum) (four-is [] T (four-rows share-lawful subs have want four-have sited enough)) ∙ sym (λ i. r 0 i ∷ r 1 i ∷ r 2 i ∷ r 3 i ∷ [])
 
-  rise-own : (i j : ℕ) → j < 4 → inColumns (0 ∷ 1 ∷ 2 ∷ 3 ∷ []) subs (ownParts share subs have want) i j ≡ within (j + 1) subs (ownParts share subs have want) ! i
-  rise-own i j h = go (sited i) ∙ sym (at-within (j + 1) subs (ownParts share subs have want) i)
+  rise-own : (i j : ℕ) → inColumns (0 ∷ 1 ∷ 2 ∷ 3 ∷ []) subs (ownParts share subs have want) i j ≡ within (j + 1) subs (ownParts share subs have want) ! i
+  rise-own i j = go (sited i) ∙ sym (at-within (j + 1) subs (ownParts share subs have want) i)
     where
       x : ℕ
       x = ownParts share subs have want ! i
 
       go : (want ! i ≡ 0) ⊎ ((1 ≤ subs ! i) × (subs ! i ≤ 4)) → cond (eqb j ((0 ∷ 1 ∷ 2 ∷ 3 ∷ []) ! (subs ! i - 1))) x 0 ≡ cond (eqb (subs ! i) (j + 1)) x 0
-      go (inr r) = own-column (subs ! i) x j (r .0) (r .1) h
+      go (inr r) = own-column (subs ! i) x j (r .0) (r .1)
       go (inl z) = none (eqb j ((0 ∷ 1 ∷ 2 ∷ 3 ∷ []) ! (subs ! i - 1))) (eqb (subs ! i) (j + 1)) (let a = own-under i in omega arith)
         where
           none : (a b : Bool) → x ≡ 0 → cond a x 0 ≡ cond b x 0
@@ -186,7 +182,7 @@ module _ (starts have want : List ℕ) (up : Rising starts (length want)) where
     where
       both : (i j : ℕ) → j < 4 → figures₂ ! (4 * i + j) ≡ figures₀ ! (4 * i + j) + gotBy (four (supplied share subs have want)) i j
       both i j h =
-          let a = q .by i j h in let b = r .by i j h in let c = rise-own i j h in
+          let a = q .by i j h in let b = r .by i j h in let c = rise-own i j in
           let d : gotBy (four (supplied share subs have want)) i j ≡ within (j + 1) subs (ownParts share subs have want) ! i + getD (got share subs have want) j [] ! i =
           ap (λ l. l ! i) (supplied-at j h) ∙ at-⊕ (within (j + 1) subs (ownParts share subs have want)) (getD (got share subs have want) (j + 1 - 1) []) i
           ∙ ap (λ (m : ℕ). within (j + 1) subs (ownParts share subs have want) ! i + getD (got share subs have want) m [] ! i) (add-sub-cancel j 1) in

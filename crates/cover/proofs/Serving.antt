@@ -1,6 +1,5 @@
 -- Step 6: givers in order, each sharing what it sent over the needs that are still open. Assumes nothing.
 use mathlib.Core.Path.{_≡_, refl, sym, ap, _∙_, subst}
-use mathlib.Core.Bool.{Bool, true, false, cond}
 use mathlib.Core.Logic.{⊎-elim}
 use mathlib.Core.List.{List, [], _∷_, map}
 use Prim.Native.Nat.{ℕ, zero, suc, _+_, _-_, _≤_, _<_}
@@ -13,7 +12,7 @@ use lib.Seq.{ext-getD, take-all, drop-cons, drop-drop, getD-drop}
 use borrow.Author.Tests.{eq-eqb, ne-eqb}
 use Rattle.lists.specs.Lists.{sum, Within}
 use Rattle.lists.specs.Columns.{_⊖_, Below, within, at, totals}
-use Rattle.lists.proofs.Columns.{_!_, at-⊖, at-totals, within-⊖, sum-⊖, below-four, each, length-rowwise}
+use Rattle.lists.proofs.Columns.{_!_, at-⊖, at-totals, within-⊖, sum-⊖, below-four, each, four-le, cond-le, length-rowwise}
 use Rattle.sharing.specs.Sharing.{Rule, share}
 use Rattle.transfer.specs.Transfer.{serve}
 use Rattle.sharing.specs.Laws.{Lawful}
@@ -57,12 +56,8 @@ module _ {rule : Rule} (L : Lawful rule) (subs amounts want : List ℕ) (fits : 
   room-kept columns room r = record {
     at = λ i j h.
         let a = r .by i j h in let b = room .at i j h in let c = at-⊖ want p i in let d = parts-under i in
-        let f = low (eqb j (columns ! (subs ! i - 1))) (p ! i) in omega arith;
+        let f = cond-le (eqb j (columns ! (subs ! i - 1))) (p ! i) in omega arith;
   }
-    where
-      low : (b : Bool) (x : ℕ) → cond b x 0 ≤ x
-      low true x = omega arith
-      low false x = omega arith
 
 -- ---- one giver after the other
 pub record Giving (subs : List ℕ) (table got : List (List ℕ)) (want₀ figures₀ want figures sums : List ℕ) (g : ℕ) : Type 0 where
@@ -86,14 +81,7 @@ all-from g zero h = refl
 all-from g (suc t) h = each (λ t. (g ∷ g ∷ g ∷ g ∷ []) ! (t - 1) ≡ g) refl refl refl refl (suc t) (omega arith) h
 
 pub four-within : {a b c d : ℕ} → a < 4 → b < 4 → c < 4 → d < 4 → Within (a ∷ b ∷ c ∷ d ∷ []) 3
-four-within {a} {b} {c} {d} p q r s = record { at = go }
-  where
-    go : (i : ℕ) → (a ∷ b ∷ c ∷ d ∷ []) ! i ≤ 3
-    go zero = omega arith
-    go (suc zero) = omega arith
-    go (suc (suc zero)) = omega arith
-    go (suc (suc (suc zero))) = omega arith
-    go (suc (suc (suc (suc i)))) = omega arith
+four-within p q r s = record { at = four-le (λ _. 3) (omega arith) (omega arith) (omega arith) (omega arith) }
 
 module _ {subs : List ℕ} {table : List (List ℕ)} {want₀ figures₀ sums₀ : List ℕ} where
   pub giving : sums₀ ≡ totals subs want₀ → SentWithin table sums₀ → Room want₀ figures₀

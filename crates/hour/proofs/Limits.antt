@@ -16,7 +16,7 @@ use Rattle.hour.specs.Work.{Workable}
 use Rattle.hour.proofs.Hour.{Sound, rows-a}
 use Rattle.hour.proofs.Table.{length-plants, plants-submarkets}
 use Rattle.hour.proofs.Guarantees.{guarantees-columns}
-use Rattle.rows.proofs.Submarkets.{placed-at}
+use Rattle.blocks.proofs.Blocks.{placed-at}
 
 pub submarkets-columns : (ss ns gs ls vs profile metered : List ℕ) (k : ℕ) → submarkets (hourOf (plantsOf ss ns gs ls vs) profile metered k) ≡ ss
 unfolding hourOf submarkets

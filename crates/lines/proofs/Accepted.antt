@@ -1,13 +1,12 @@
 -- What a caller learns of a line that was read: for those who go on with its figures. Assumes nothing.
-use mathlib.Core.Path.{_≡_, refl, sym, ap, _∙_}
+use mathlib.Core.Path.{_≡_, sym, ap, _∙_}
 use mathlib.Core.Bool.{true}
 use mathlib.Core.List.{List, _++_, map}
-use Prim.Native.Nat.{ℕ, zero, suc, _≤_, _<_}
+use Prim.Native.Nat.{ℕ, _≤_, _<_}
 use borrow.Author.Tests.{leb-true, ltb-true, eqb-true}
 use lib.ListN.{length, drop}
 use Rattle.lists.specs.Lists.{every}
-use Rattle.lists.specs.Questions.{outcome}
-use Rattle.lists.proofs.Questions.{asked, limits, accepted, outcome-part}
+use Rattle.lists.proofs.Questions.{asked, limits, accepted, number-itself, outcome-part}
 use Rattle.figures.specs.Figures.{value, isFigure}
 use Rattle.lines.specs.Fields.{longest}
 use Rattle.lines.specs.Reading.{lineStart, lineFields, countFits, readNumber, ReadEnd, readCall}
@@ -39,11 +38,6 @@ read line places e =
     }
 
 -- ---- the parts of what the call leaves
-
-number-itself : (n : ℕ) → outcome n 0 (λ k. k) ≡ n
-unfolding outcome
-number-itself zero = refl
-number-itself (suc n) = refl
 
 module _ (line old : List ℕ) {answer : Line} {new : List ℕ} (e : _≡_ {A = ReadEnd} (record { answer = answer; figures = new }) (readCall line old)) where
   -- the number is that of the questions

@@ -1,14 +1,10 @@
 -- Figures within bounds, and their sums. Assumes nothing.
 use mathlib.Core.List.{List}
-use Prim.Native.Nat.{ℕ, _*_, _/_, _≤_}
-use native.Mathlib.Nat.{le-trans, div-le-of-le-mul, mul-le-mul-left}
-use native.Mathlib.Omega.{arith}
+use Prim.Native.Nat.{ℕ, _*_, _≤_}
+use native.Mathlib.Nat.{le-trans}
 use lib.ListN.{length, getD}
 use Rattle.lists.specs.Lists.{sum, Within}
 use Rattle.lists.proofs.Sums.{at-le-sum, table-getD, table-sum-bound}
-
-pub scaled : {x y a : ℕ} → x ≤ a → y ≤ 1000000 → x * y / 1000000 ≤ a
-scaled {x} {y} p q = le-trans (div-le-of-le-mul 1000000 (omega (arith, mul-le-mul-left x q))) p
 
 -- figures of at most b each
 pub sum-bound : (l : List ℕ) (b : ℕ) → Within l b → sum l ≤ length l * b

@@ -191,7 +191,15 @@ pub each : (P : ℕ → Type 0) → P 1 → P 2 → P 3 → P 4 → (s : ℕ) �
 each P a b c d zero l h = absurd (omega arith)
 each P a b c d (suc s) l h = below-four (λ i. P (suc i)) a b c d s (omega arith)
 
-cond-same : (b : Bool) → _≡_ {A = ℕ} (cond b 0 0) 0
+-- four figures, each below its bound
+pub four-le : {a b c d : ℕ} (bound : ℕ → ℕ) → a ≤ bound 0 → b ≤ bound 1 → c ≤ bound 2 → d ≤ bound 3 → (i : ℕ) → (a ∷ b ∷ c ∷ d ∷ []) ! i ≤ bound i
+four-le bound p q r s zero = p
+four-le bound p q r s (suc zero) = q
+four-le bound p q r s (suc (suc zero)) = r
+four-le bound p q r s (suc (suc (suc zero))) = s
+four-le bound p q r s (suc (suc (suc (suc i)))) = omega arith
+
+pub cond-same : (b : Bool) → _≡_ {A = ℕ} (cond b 0 0) 0
 cond-same true = refl
 cond-same false = refl
 
@@ -203,7 +211,7 @@ pub in-out : (b : Bool) (x : ℕ) → cond b x 0 + cond b 0 x ≡ x
 in-out true x = omega arith
 in-out false x = omega arith
 
-cond-le : (b : Bool) (x : ℕ) → cond b x 0 ≤ x
+pub cond-le : (b : Bool) (x : ℕ) → cond b x 0 ≤ x
 cond-le true x = omega arith
 cond-le false x = omega arith
 

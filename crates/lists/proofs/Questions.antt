@@ -158,6 +158,12 @@ module _ {ℓ} {A : Type ℓ} where
   unfolding outcome
   accepted n y f e = rw e
 
+-- the number itself
+pub number-itself : (n : ℕ) → outcome n 0 (λ k. k) ≡ n
+unfolding outcome
+number-itself zero = refl
+number-itself (suc n) = refl
+
 -- a part of what a call leaves
 pub outcome-part {ℓ κ} : {A : Type ℓ} {B : Type κ} (g : A → B) (n : ℕ) (y : A) (f : ℕ → A) → g (outcome n y f) ≡ outcome n (g y) (λ k. g (f k))
 unfolding outcome

@@ -1,8 +1,9 @@
 -- A figure times a ratio, from the ratio's first binary digits. Assumes nothing.
 use mathlib.Core.Path.{_≡_, ap}
 use Prim.Native.Nat.{ℕ, _+_, _*_, _/_, _%_, _≤_, _<_}
-use native.Mathlib.Nat.{mul-le-mul-left, mul-le-mul-right, div-add-mod', mod-lt, div-eq-of-lt-le, div-le-of-le-mul, le-of-lt}
+use native.Mathlib.Nat.{mul-le-mul-left, mul-le-mul-right, div-add-mod', mod-lt, div-eq-of-lt-le, le-of-lt, le-trans}
 use native.Mathlib.Omega.{arith}
+use Rattle.wide.proofs.Step.{at-most}
 
 -- With the ratio c / w, its digits (high the first 20, low the next 42, middle the first 42) and what stands behind the whole part:
 -- where y is not too near the next whole number, the digits settle the product
@@ -35,6 +36,6 @@ module _ (c w q₁ q₀ high low middle y : ℕ) (some : 0 < w)
   pub by-digits : (q₁ * 1048576 + q₀) * c / w ≡ q₁ * high + y / 4398046511104
   by-digits = div-eq-of-lt-le w (bounds .0) (bounds .1)
 
--- at most 1, times s
-pub digits-le : (s c w : ℕ) → c ≤ w → s * c / w ≤ s
-digits-le s c w h = div-le-of-le-mul w (let a = mul-le-mul-left s h in omega arith)
+-- a figure times a factor in millionths
+pub scaled : {x y a : ℕ} → x ≤ a → y ≤ 1000000 → x * y / 1000000 ≤ a
+scaled {x} {y} p q = le-trans (at-most x y 1000000 q) p

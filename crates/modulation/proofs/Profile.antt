@@ -7,14 +7,14 @@ use native.Mathlib.Omega.{arith}
 use lib.ListN.{length, take, drop, getD, take-append-drop}
 use lib.Seq.{take-suc, take-take}
 use Rattle.lists.specs.Lists.{sum, table, Within}
-use Rattle.lists.proofs.Bounds.{scaled}
+use Rattle.wide.proofs.Step.{at-most}
 use Rattle.lists.proofs.Sums.{table-sum-bound, sum-append, take-le-sum}
 use Rattle.sharing.proofs.Sharing.{share-at, up-to-mono}
 use Rattle.modulation.specs.declared.Modulation.{Modulation}
 use Rattle.modulation.specs.Guarantee.{modulatedIn, guaranteeWith, guaranteeIn}
 use Rattle.modulation.specs.Totals.{Ordered, Consecutive, modulationOf, partOf, partBy, guaranteeOf}
 use Rattle.modulation.specs.declared.ratio.Ratio.{Ratio}
-use Rattle.modulation.proofs.Digits.{digits-le}
+use Rattle.modulation.proofs.Digits.{scaled}
 
 module _ (l : List ℕ) (k : ℕ) where
   pub sum-split : sum (take k l) + sum (drop k l) ≡ sum l
@@ -41,11 +41,11 @@ ordered profile k some small =
 
 -- the part is no more than Q
 pub part-le : (m : Modulation) (q : ℕ) → m .upto ≤ m .whole → partOf m q ≤ q
-part-le m q h = let a = digits-le q (m .upto) (m .whole) h in omega arith
+part-le m q h = let a = at-most q (m .upto) (m .whole) h in omega arith
 
 module _ (before upto : Ratio) (q : ℕ) (c : Consecutive before upto) where
   pub part-by-le : partBy before upto q ≤ q
-  part-by-le = let a = digits-le q (upto .part) (upto .whole) (c .second .atMostOne) in omega arith
+  part-by-le = let a = at-most q (upto .part) (upto .whole) (c .second .atMostOne) in omega arith
 
   -- what falls to the periods up to this one is no less than what falls to those before it
   pub running-mono : q * before .part / before .whole ≤ q * upto .part / upto .whole

@@ -1,8 +1,8 @@
 -- Loops over rows that stand by submarket: sums by submarket, and four figures a row. Assumes nothing.
 use mathlib.Core.Path.{_≡_, refl, sym, ap, _∙_}
 use mathlib.Core.List.{List, [], _∷_}
-use Prim.Native.Nat.{ℕ, zero, suc, _+_, _-_, _≤_, _<_, zero-le}
-use native.Mathlib.Nat.{zero-add, not-suc-le-zero, le-of-suc-le-suc}
+use Prim.Native.Nat.{ℕ, _+_, _-_, _≤_, _<_, zero-le}
+use native.Mathlib.Nat.{zero-add}
 use native.Mathlib.Numerals.{add-one}
 use native.Mathlib.Omega.{arith}
 use native.Mathlib.Decide.{ℕ-discrete}
@@ -12,13 +12,6 @@ use borrow.Author.Tests.{eq-eqb, ne-eqb}
 use Rattle.lists.specs.Lists.{sum}
 use Rattle.lists.specs.Columns.{rowwise, _⊖_, within, inside, at, totals}
 use Rattle.lists.proofs.Columns.{_!_, each, at-totals, at-⊖, sum-le, within-le}
-use Rattle.blocks.specs.Portion.{Standing}
-
--- rows that stand by submarket are in submarkets 1 to 4
-pub placed-at : (s : ℕ) (subs : List ℕ) → Standing s subs → (i : ℕ) → i < length subs → (1 ≤ subs ! i) × (subs ! i ≤ 4)
-placed-at s [] e i h = absurd (not-suc-le-zero h)
-placed-at s (t ∷ subs) e zero h = (e .1, e .2)
-placed-at s (t ∷ subs) e (suc i) h = placed-at t subs (e .3) i (le-of-suc-le-suc h)
 
 -- A loop that sums xs by submarket: with u the sums of the first i rows
 pub record Totalling (subs xs : List ℕ) (i : ℕ) (u : List ℕ) : Type 0 where

@@ -10,6 +10,7 @@ use lib.ListN.{length, take, drop, getD, length-take}
 use lib.Seq.{getD-drop}
 use Rattle.lists.specs.Lists.{sum, Within}
 use Rattle.lists.specs.Columns.{four}
+use Rattle.lists.proofs.Columns.{four-le}
 use Rattle.figures.specs.Figures.{minus, signedFigure, figureLength, signedFigureLength}
 use Rattle.figures.proofs.Decimal.{length-le, length-small}
 use Rattle.hour.specs.declared.Plant.{Plant}
@@ -27,14 +28,7 @@ use Rattle.statement.proofs.Text.{length-statement, text-columns}
 
 module _ (l : Ledger) (e : inBounds l ≡ true) (k : length (l .allotted) ≤ 2048) where
   pub columns-low : Within (four (λ s. sum (allottedIn s l))) (2048 * kwhBound)
-  columns-low = record { at = low }
-    where
-      low : (i : ℕ) → getD (four (λ s. sum (allottedIn s l))) i 0 ≤ 2048 * kwhBound
-      low zero = column-small l e k 1
-      low (suc zero) = column-small l e k 2
-      low (suc (suc zero)) = column-small l e k 3
-      low (suc (suc (suc zero))) = column-small l e k 4
-      low (suc (suc (suc (suc i)))) = omega arith
+  columns-low = let c = column-small l e k in record { at = four-le (λ _. 2048 * kwhBound) (c 1) (c 2) (c 3) (c 4) }
 
   -- the sum of the four column sums
   pub sum-low : sum (four (λ s. sum (allottedIn s l))) ≤ 8192 * kwhBound

@@ -42,21 +42,12 @@ module _ {rule : Rule} (L : Lawful rule) where
       omega arith
 
   -- a table of what n givers have left has n rows
-  rows-le : (ws ts : List ℕ) → length (transpose 0 (serve rule ws ts)) ≤ length ws
-  unfolding serve transpose
-  rows-le ws [] = omega arith
-  rows-le ws (t ∷ ts) =
-      let a = length-rowwise _∷_ 0 [] (rule t ws) (transpose 0 (serve rule (ws ⊖ rule t ws) ts)) in
-      let b = rows-le (ws ⊖ rule t ws) ts in
-      let c = length-rowwise _-_ 0 0 ws (rule t ws) in
-      let d = L .sized t ws in
-      omega arith
-
   pub transfer-rows : (ws : List ℕ) (t : ℕ) (ts : List ℕ) → length (transfer rule ws (t ∷ ts)) ≡ length ws
   unfolding transfer serve transpose
-  transfer-rows ws t ts =
-      let a = length-rowwise _∷_ 0 [] (rule t ws) (transpose 0 (serve rule (ws ⊖ rule t ws) ts)) in
-      let b = rows-le (ws ⊖ rule t ws) ts in
+  transfer-rows ws t [] = let a = length-rowwise _∷_ 0 [] (rule t ws) [] in let b = L .sized t ws in omega arith
+  transfer-rows ws t (u ∷ ts) =
+      let a = length-rowwise _∷_ 0 [] (rule t ws) (transpose 0 (serve rule (ws ⊖ rule t ws) (u ∷ ts))) in
+      let b = transfer-rows (ws ⊖ rule t ws) u ts in
       let c = length-rowwise _-_ 0 0 ws (rule t ws) in
       let d = L .sized t ws in
       omega arith

@@ -3,7 +3,7 @@ use Prim.Native.Nat.{_≤_}
 use native.Mathlib.Nat.{mul-le-mul}
 use native.Mathlib.Omega.{arith}
 use borrow.Author.Needs.{needs}
-use Rattle.lists.proofs.Bounds.{scaled}
+use Rattle.modulation.proofs.Digits.{scaled}
 use Rattle.modulation.proofs.Profile.{part-by-le}
 use Rattle.modulation.proofs.guaranteed.Statement.{statement}
 use Rattle.modulation.proofs.guaranteed.Tie as tie

@@ -5,7 +5,8 @@ use borrow.Author.Needs.{needs}
 use lib.ListN.{length, getD}
 use Rattle.lists.specs.Columns.{_⊖_}
 use Rattle.lists.proofs.Columns.{at-⊖, length-rowwise}
-use Rattle.rows.proofs.Submarkets.{Totalling, totalling, totalling-more, totalled, totalling-le, over-le, placed-at}
+use Rattle.blocks.proofs.Blocks.{placed-at}
+use Rattle.rows.proofs.Submarkets.{Totalling, totalling, totalling-more, totalled, totalling-le, over-le}
 use Rattle.rows.proofs.surplus_by.Statement.{statement}
 use Rattle.rows.proofs.surplus_by.Tie as tie
 

@@ -4,7 +4,8 @@ use Prim.Native.Nat.{ℕ, _+_, _*_, _/_, _%_, _≤_}
 use native.Mathlib.Nat.{mul-comm, mul-le-mul, mod-lt, le-of-lt, div-add-mod'}
 use native.Mathlib.Omega.{arith}
 use borrow.Author.Needs.{needs}
-use Rattle.modulation.proofs.Digits.{by-digits, digits-le}
+use Rattle.wide.proofs.Step.{at-most}
+use Rattle.modulation.proofs.Digits.{by-digits}
 use Rattle.modulation.proofs.ratio.times.Statement.{statement}
 use Rattle.modulation.proofs.ratio.times.Tie as tie
 
@@ -19,9 +20,9 @@ small c =
     let t = c .args .t in let r = c .args .r in let p = c .pre .0 in
     let u : t / 1048576 ≤ 1048576 = (let a = c .pre .1 in omega arith) in
     let v : t % 1048576 ≤ 1048576 = omega arith in
-    let high : r .high ≤ 1048576 = rw (p .first) (rw mul-comm (digits-le 1048576 (r .part) (r .whole) (p .atMostOne))) in
-    let low : r .low ≤ 4398046511104 = rw (p .next) (digits-le 4398046511104 (r .part * 1048576 % r .whole) (r .whole) (le-of-lt (mod-lt (r .part * 1048576) (p .some)))) in
-    let middle : r .middle ≤ 4398046511104 = rw (p .both) (digits-le 4398046511104 (r .part) (r .whole) (p .atMostOne)) in
+    let high : r .high ≤ 1048576 = rw (p .first) (rw mul-comm (at-most 1048576 (r .part) (r .whole) (p .atMostOne))) in
+    let low : r .low ≤ 4398046511104 = rw (p .next) (at-most 4398046511104 (r .part * 1048576 % r .whole) (r .whole) (le-of-lt (mod-lt (r .part * 1048576) (p .some)))) in
+    let middle : r .middle ≤ 4398046511104 = rw (p .both) (at-most 4398046511104 (r .part) (r .whole) (p .atMostOne)) in
     record { above = mul-le-mul u low; below = mul-le-mul v middle; whole = mul-le-mul u high }
 
 returns : tie.Need-returns

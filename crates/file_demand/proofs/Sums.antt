@@ -10,6 +10,7 @@ use Rattle.lists.proofs.Questions.{accepted, asked, parted}
 use Rattle.lines.specs.Reading.{lineStart}
 use Rattle.hour.specs.declared.Plant.{Plant}
 use Rattle.ledger.specs.Ledger.{Ledger}
+use Rattle.figures.specs.Figures.{byCommas}
 use Rattle.statement.specs.Statement.{line, plantLine, plantLines, totalLine, statementText}
 use Rattle.questions.specs.Questions.{sizesNumber}
 use Rattle.questions.proofs.Asked as question
@@ -66,7 +67,7 @@ whole-settled bytes w = is-settled w
 -- ---- any other is refused: a statement begins with `A` or `T`, and a refusal with `R`
 
 statement-begins : (n : ℕ) (plants : List Plant) (l : Ledger) (line number : ℕ) → statementText n plants l ≡ refusal line number → ⊥
-unfolding statementText plantLines plantLine totalLine line refusal
+unfolding statementText plantLines plantLine totalLine byCommas line refusal
 statement-begins n [] l j k e = omega (arith, ap (λ (t : List ℕ). getD t 0 0) e)
 statement-begins n (p ∷ ps) l j k e = omega (arith, ap (λ (t : List ℕ). getD t 0 0) e)
 

@@ -2,7 +2,7 @@
 use mathlib.Core.Path.{_≡_, refl, sym, subst, _∙_}
 use mathlib.Core.Bool.{Bool, true, false, false≢true, not}
 use mathlib.Core.List.{List, flatten}
-use Prim.Native.Nat.{ℕ, zero, suc, _*_, _+_, _≤_, _<_}
+use Prim.Native.Nat.{ℕ, zero, suc, _*_, _+_, _≤_}
 use native.Mathlib.Omega.{arith}
 use borrow.Author.Tests.{eqb-true, eqb-false}
 use lib.Dec.{eqb}

@@ -3,7 +3,6 @@ use crate::MonthFile;
 use month::Month;
 use month::Stage;
 ghost use mathlib.Core.Path.{_≡_};
-ghost use Prim.Native.Nat.{_+_, _≤_};
 ghost use Rattle.file_lines.specs.File as definition;
 ghost use Rattle.file_lines.specs.State.{kept, Moved, Openable, openedOf};
 

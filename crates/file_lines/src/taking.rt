@@ -5,7 +5,6 @@ use crate::gathering::gather;
 use crate::settling::settle_line;
 use crate::turns::in_turn;
 use lines::reading::read_line;
-ghost use mathlib.Core.Path.{_≡_};
 ghost use Prim.Native.Nat.{_+_, _≤_};
 ghost use Rattle.file_lines.specs.File.{whole, taken, read};
 ghost use Rattle.file_lines.specs.State.{kept, progressOf, Valid, Moved, Figured};

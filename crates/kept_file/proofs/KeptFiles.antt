@@ -11,8 +11,6 @@ use Rattle.file_calls.specs.declared.FeedAnswer.{FeedAnswer}
 use Rattle.file_calls.specs.declared.FinishAnswer.{FinishAnswer}
 use Rattle.file_calls.specs.Checking.{FeedLists, FedAny, FinishLists, FinishedAny}
 use Rattle.kept_file.specs.declared.KeptFile.{KeptFile}
-use Rattle.kept_file.specs.declared.KeptFed.{KeptFed}
-use Rattle.kept_month.specs.Months.{monthOf}
 use Rattle.kept_file.specs.Files.{fileOf, keptFileOf, fileBack, FileFed}
 use Rattle.kept_month.proofs.Kept.{months}
 

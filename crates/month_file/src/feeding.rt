@@ -2,7 +2,6 @@
 use crate::collecting::collect;
 use file_lines::MonthFile;
 use file_lines::taking::take_line;
-ghost use mathlib.Core.Path.{_≡_};
 ghost use Prim.Native.Nat.{_≤_, _<_};
 ghost use lib.ListN.{length};
 ghost use Rattle.file_lines.specs.State.{Kept, kept, Valid};

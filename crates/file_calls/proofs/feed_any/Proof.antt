@@ -10,16 +10,16 @@ feed-any-spec =
     tie.close
     (tie.spec
     (λ c κs. search needs)  -- feed-number-requires
-    (λ c. refl)  -- same-length
-    (λ c. refl)  -- same-length-2
-    (λ c. refl)  -- same-length-3
-    (λ c. refl)  -- same-length-4
-    (λ c. refl)  -- same-length-5
+    (λ c. search needs)  -- same-length
+    (λ c. search needs)  -- same-length-2
+    (λ c. search needs)  -- same-length-3
+    (λ c. search needs)  -- same-length-4
+    (λ c. search needs)  -- same-length-5
     (λ c. feed-refused (c .before .feed-number .ensures) (c .if1 .taken))  -- returns
     (λ c κs. let g = feed-good (c .before .before .before .before .before .before .feed-number .ensures) (c .before .before .before .before .before .if1 .left) in (g .0 .bytes, g .1))  -- feed-requires
-    (λ c. c .before .before .before .before .before .before .before .before .before .feed .kept .1 .1 .0)  -- same-length-6
-    (λ c. c .before .before .before .before .before .before .before .before .before .feed .kept .1 .1 .1 .0)  -- same-length-7
-    (λ c. c .before .before .before .before .before .before .before .before .before .feed .kept .1 .1 .1 .1 .0)  -- same-length-8
-    (λ c. c .before .before .before .before .before .before .before .before .before .feed .kept .1 .1 .1 .1 .1 .0)  -- same-length-9
-    (λ c. c .before .before .before .before .before .before .before .before .before .feed .kept .1 .1 .1 .1 .1 .1 .0)  -- same-length-10
+    (λ c. search needs)  -- same-length-6
+    (λ c. search needs)  -- same-length-7
+    (λ c. search needs)  -- same-length-8
+    (λ c. search needs)  -- same-length-9
+    (λ c. search needs)  -- same-length-10
     (λ c. feed-taken _ _ _ _ _ (c .before .before .before .before .before .before .before .before .before .before .before .before .before .before .before .before .feed-number .ensures) (c .before .before .before .before .before .before .before .before .before .before .before .before .before .before .before .if1 .left) (c .before .before .before .before .before .before .before .before .before .feed .ensures)))  -- returns-2

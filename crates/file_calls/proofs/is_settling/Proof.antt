@@ -2,7 +2,7 @@
 use mathlib.Core.Path.{sym, _∙_}
 use native.Mathlib.Omega.{arith}
 use borrow.Author.Needs.{needs}
-use Rattle.file_lines.specs.State.{ledgerOf, Settling}
+use Rattle.file_lines.specs.State.{ledgerOf}
 use Rattle.file_lines.proofs.Opened.{front-count}
 use Rattle.file_calls.proofs.Checked.{no, alike, by-value, denied, granted, settling-counted, settling-yes}
 use Rattle.file_calls.proofs.is_settling.Statement.{statement}

@@ -1,7 +1,7 @@
 -- What the state stands for once a line is read. Assumes nothing.
 use mathlib.Core.Path.{_≡_, refl, sym, ap, subst}
 use mathlib.Core.List.{[]}
-use Prim.Native.Nat.{ℕ, _+_}
+use Prim.Native.Nat.{ℕ, _+_, _≤_}
 use native.Mathlib.Omega.{arith}
 use lib.ListN.{length}
 use Rattle.lists.specs.Questions.{outcome}
@@ -13,7 +13,27 @@ use Rattle.questions.proofs.Asked.{Sizes, sizes}
 use Rattle.file_lines.specs.declared.MonthFile.{MonthFile}
 use Rattle.file_lines.specs.File as file
 use Rattle.file_lines.specs.File.{Progress, gathers, begun, blank}
-use Rattle.file_lines.specs.State.{Kept, progressOf, Lent, Moved, atStart, atStage, atRefusal}
+use Rattle.file_lines.specs.State.{Kept, progressOf, Lent, Gathering, Settling, Valid, Moved, atStart, atStage, atRefusal}
+
+-- ---- a state, by its stage
+
+module _ (f : MonthFile) (k : Kept) (lent : Lent k) (h : f .length ≤ 8192) where
+  pub valid-begun : f .stage ≡ 0 → f .count ≡ 0 → Valid f k
+  valid-begun s c =
+      record { lent = lent; short = h; begun = λ e. c; gathering = λ e. absurd (omega arith); settling = λ e. absurd (omega arith) }
+
+  pub valid-gathering : f .stage ≡ 1 → Gathering f → Valid f k
+  valid-gathering s g =
+      record { lent = lent; short = h; begun = λ e. absurd (omega arith); gathering = λ e. g; settling = λ e. absurd (omega arith) }
+
+  pub valid-settling : f .stage ≡ 2 → Settling f k → Valid f k
+  valid-settling s g =
+      record { lent = lent; short = h; begun = λ e. absurd (omega arith); gathering = λ e. absurd (omega arith); settling = λ e. g }
+
+  pub valid-else : (f .stage ≡ 0 → ⊥) → (f .stage ≡ 1 → ⊥) → (f .stage ≡ 2 → ⊥) → Valid f k
+  valid-else a b c = record { lent = lent; short = h; begun = λ e. absurd (a e); gathering = λ e. absurd (b e); settling = λ e. absurd (c e) }
+
+-- ---- a line that is read
 
 -- before the first byte
 pub started : (m : Month) → m ≡ blank
@@ -66,13 +86,7 @@ module _ (f : MonthFile) (k : Kept) (lent : Lent k) where
         empty = refl;
         counted = refl;
         stands = refl;
-        valid = record {
-          lent = lent;
-          short = omega arith;
-          begun = λ e. absurd (omega arith);
-          gathering = λ e. absurd (omega arith);
-          settling = λ e. absurd (omega arith);
-        };
+        valid = valid-else _ k lent (omega arith) (λ e. omega arith) (λ e. omega arith) (λ e. omega arith);
       }
 
   pub moved-as : {p q : Progress} {r g : MonthFile} → Moved f p r k → r ≡ g → p ≡ q → Moved f q g k
@@ -92,13 +106,8 @@ module _ (f : MonthFile) (k : Kept) (lent : Lent k) where
         empty = refl;
         counted = refl;
         stands = refl;
-        valid = record {
-          lent = lent;
-          short = omega arith;
-          begun = λ e. absurd (omega arith);
-          gathering = λ e. record { plants = s .plants; periods = s .periods; rows = omega arith; figures = omega (arith, s .somePeriods); counted = omega (arith, none) };
-          settling = λ e. absurd (omega arith);
-        };
+        valid = valid-gathering _ k lent (omega arith) refl
+            (record { plants = s .plants; periods = s .periods; rows = omega arith; figures = omega (arith, s .somePeriods); counted = omega (arith, none) });
       }
 
   pub begins-by : (g : MonthFile) (periods plants tariff n : ℕ) → f .count ≡ 0 → n ≡ sizesNumber plants periods tariff → n ≡ 0 → g ≡ atStage f 1

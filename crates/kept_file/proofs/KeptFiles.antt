@@ -5,7 +5,6 @@ use Prim.Native.Nat.{ℕ, zero, suc}
 use native.Mathlib.Omega.{arith}
 use Rattle.lists.specs.Questions.{outcome}
 use Rattle.lists.proofs.Questions.{refuses, accepts}
-use Rattle.month.specs.declared.Month.{Month}
 use Rattle.file_lines.specs.declared.MonthFile.{MonthFile}
 use Rattle.file_calls.specs.declared.FeedAnswer.{FeedAnswer}
 use Rattle.file_calls.specs.declared.FinishAnswer.{FinishAnswer}

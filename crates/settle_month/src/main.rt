@@ -7,7 +7,6 @@ use libc::STDIN_FILENO;
 use libc::STDOUT_FILENO;
 use month_file::feeding::feed;
 use month_file::finishing::finish;
-ghost use mathlib.Core.Bool.{true};
 ghost use Prim.Native.Nat.{_*_, _+_, _≤_};
 ghost use lib.ListN.{length, take};
 ghost use Rattle.io.specs.Counts.{clamped};

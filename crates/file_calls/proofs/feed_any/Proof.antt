@@ -1,5 +1,4 @@
 -- `file_calls::feed_any` meets its contract. Assumes nothing.
-use mathlib.Core.Path.{refl}
 use borrow.Author.Needs.{needs}
 use Rattle.file_calls.proofs.Checked.{feed-good, feed-refused, feed-taken}
 use Rattle.file_calls.proofs.feed_any.Statement.{statement}

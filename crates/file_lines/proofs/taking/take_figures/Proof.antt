@@ -1,5 +1,4 @@
 -- `taking::take_figures` meets its contract. Assumes nothing.
-use mathlib.Core.Path.{refl}
 use native.Mathlib.Omega.{arith}
 use borrow.Author.Needs.{needs}
 use Rattle.file_lines.specs.State.{Kept, kept}

@@ -16,7 +16,7 @@ use Rattle.file_calls.specs.declared.FeedAnswer.{FeedAnswer}
 use Rattle.file_calls.specs.declared.FinishAnswer.{FinishAnswer}
 use Rattle.file_lines.specs.File.{settledFile}
 use Rattle.month_file.specs.Bytes.{finished}
-use Rattle.file_lines.specs.State.{Kept, ledgerOf, Lent, Gathering, Settling, Valid}
+use Rattle.file_lines.specs.State.{Kept, ledgerOf, Lent, Settling, Valid}
 use Rattle.month_file.specs.Machine.{readingOf, Fresh, Fed}
 use Rattle.month_file.specs.Run.{Place, Feeds}
 use Rattle.month_file.specs.Run as run
@@ -59,22 +59,6 @@ settling-counted s = record { plants = s .plants; periods = s .periods; due = s 
 pub settling-yes : {f : MonthFile} {k : Kept} → Counted (f .month) (f .count) → rowsNumber 0 0 (rowsOf (f .month .plants) (k .columns)) ≡ 0
     → inBounds (ledgerOf (f .month .plants) k) ≡ true → Settling f k
 settling-yes c r b = record { plants = c .plants; periods = c .periods; due = c .due; counted = c .counted; rows = r; bounded = b }
-
-module _ (f : MonthFile) (k : Kept) (lent : Lent k) (h : f .length ≤ 8192) where
-  pub valid-begun : f .stage ≡ 0 → f .count ≡ 0 → Valid f k
-  valid-begun s c =
-      record { lent = lent; short = h; begun = λ e. c; gathering = λ e. absurd (omega arith); settling = λ e. absurd (omega arith) }
-
-  pub valid-gathering : f .stage ≡ 1 → Gathering f → Valid f k
-  valid-gathering s g =
-      record { lent = lent; short = h; begun = λ e. absurd (omega arith); gathering = λ e. g; settling = λ e. absurd (omega arith) }
-
-  pub valid-settling : f .stage ≡ 2 → Settling f k → Valid f k
-  valid-settling s g =
-      record { lent = lent; short = h; begun = λ e. absurd (omega arith); gathering = λ e. absurd (omega arith); settling = λ e. g }
-
-  pub valid-else : (f .stage ≡ 0 → ⊥) → (f .stage ≡ 1 → ⊥) → (f .stage ≡ 2 → ⊥) → Valid f k
-  valid-else a b c = record { lent = lent; short = h; begun = λ e. absurd (a e); gathering = λ e. absurd (b e); settling = λ e. absurd (c e) }
 
 -- ---- what is answered
 

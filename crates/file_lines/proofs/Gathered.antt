@@ -16,7 +16,7 @@ use Rattle.records.proofs.Figures.{length-rows, rows-put}
 use Rattle.file_lines.specs.declared.MonthFile.{MonthFile}
 use Rattle.file_lines.specs.File.{Progress, Sizes, gathers, plantOf, opened, taken}
 use Rattle.file_lines.specs.State.{Kept, kept, progressOf, Lent, Gathering, Valid, Moved, atStage, Openable, openedOf}
-use Rattle.file_lines.proofs.Moves.{gathered, moved-as}
+use Rattle.file_lines.proofs.Moves.{valid-gathering, gathered, moved-as}
 
 abbrev pub sizesOf : MonthFile → Sizes
 sizesOf f = record { periods = f .periods; plants = f .plants; tariff = f .tariff }
@@ -66,19 +66,8 @@ module _ (f : MonthFile) (k : Kept) (stage : f .stage ≡ 1) (v : Valid f k) whe
           empty = refl;
           counted = refl;
           stands = ap (λ (r : List Plant). gathers (sizesOf f) r (take (f .figures) (k .profile))) rows-after;
-          valid = record {
-            lent = lent;
-            short = omega arith;
-            begun = λ e. absurd (omega arith);
-            gathering = λ e. record {
-              plants = g .plants;
-              periods = g .periods;
-              rows = omega (arith, h);
-              figures = g .figures;
-              counted = omega (arith, g .counted);
-            };
-            settling = λ e. absurd (omega arith);
-          };
+          valid = valid-gathering _ after lent (omega arith) refl
+              (record { plants = g .plants; periods = g .periods; rows = omega (arith, h); figures = g .figures; counted = omega (arith, g .counted) });
         }
 
     pub row-moved : (q : MonthFile) → q ≡ atStage f 1
@@ -135,13 +124,8 @@ module _ (f : MonthFile) (k : Kept) (stage : f .stage ≡ 1) (v : Valid f k) whe
           empty = refl;
           counted = refl;
           stands = ap (gathers (sizesOf f) (rowsOf (f .rows) (k .columns))) profile-after;
-          valid = record {
-            lent = lent-longer;
-            short = omega arith;
-            begun = λ e. absurd (omega arith);
-            gathering = λ e. record { plants = g .plants; periods = g .periods; rows = g .rows; figures = m; counted = omega (arith, g .counted) };
-            settling = λ e. absurd (omega arith);
-          };
+          valid = valid-gathering _ longer lent-longer (omega arith) refl
+              (record { plants = g .plants; periods = g .periods; rows = g .rows; figures = m; counted = omega (arith, g .counted) });
         }
 
     pub figure-moved : f .figures + 1 < f .periods → (q : MonthFile) → q ≡ atStage f 1

@@ -1,7 +1,7 @@
 -- What the state stands for once a line is read. Assumes nothing.
 use mathlib.Core.Path.{_≡_, refl, sym, ap, subst}
 use mathlib.Core.List.{[]}
-use Prim.Native.Nat.{ℕ, _+_}
+use Prim.Native.Nat.{ℕ, _+_, _≤_}
 use native.Mathlib.Omega.{arith}
 use lib.ListN.{length}
 use Rattle.lists.specs.Questions.{outcome}
@@ -13,7 +13,27 @@ use Rattle.questions.proofs.Asked.{Sizes, sizes}
 use Rattle.file_lines.specs.declared.MonthFile.{MonthFile}
 use Rattle.file_lines.specs.File as file
 use Rattle.file_lines.specs.File.{Progress, gathers, begun, blank}
-use Rattle.file_lines.specs.State.{Kept, progressOf, Lent, Gathering, Moved, atStart, atStage, atRefusal}
+use Rattle.file_lines.specs.State.{Kept, progressOf, Lent, Gathering, Settling, Valid, Moved, atStart, atStage, atRefusal}
+
+-- ---- a state, by its stage
+
+module _ (f : MonthFile) (k : Kept) (lent : Lent k) (h : f .length ≤ 8192) where
+  pub valid-begun : f .stage ≡ 0 → f .count ≡ 0 → Valid f k
+  valid-begun s c =
+      record { lent = lent; short = h; begun = λ e. c; gathering = λ e. absurd (omega arith); settling = λ e. absurd (omega arith) }
+
+  pub valid-gathering : f .stage ≡ 1 → Gathering f → Valid f k
+  valid-gathering s g =
+      record { lent = lent; short = h; begun = λ e. absurd (omega arith); gathering = λ e. g; settling = λ e. absurd (omega arith) }
+
+  pub valid-settling : f .stage ≡ 2 → Settling f k → Valid f k
+  valid-settling s g =
+      record { lent = lent; short = h; begun = λ e. absurd (omega arith); gathering = λ e. absurd (omega arith); settling = λ e. g }
+
+  pub valid-else : (f .stage ≡ 0 → ⊥) → (f .stage ≡ 1 → ⊥) → (f .stage ≡ 2 → ⊥) → Valid f k
+  valid-else a b c = record { lent = lent; short = h; begun = λ e. absurd (a e); gathering = λ e. absurd (b e); settling = λ e. absurd (c e) }
+
+-- ---- a line that is read
 
 -- before the first byte
 pub started : (m : Month) → m ≡ blank
@@ -58,21 +78,16 @@ unfolding atStage atRefusal
 refused-is f g n e = ap (λ (h : MonthFile). numbered h n) e
 
 module _ (f : MonthFile) (k : Kept) (lent : Lent k) where
-  -- a line read, to a stage that is neither before the first line nor among G lines
-  moved-to : (r : MonthFile) (p : Progress) → r .length ≡ 0 → r .count ≡ f .count + 1 → (r .stage ≡ 0 → ⊥) → (r .stage ≡ 2 → ⊥) → (r .stage ≡ 1 → Gathering r)
-      → progressOf r k ≡ p → Moved f p r k
-  moved-to r p empty counted first last gathering stands =
-      record {
-        empty = empty;
-        counted = counted;
-        stands = stands;
-        valid = record { lent = lent; short = omega arith; begun = λ e. absurd (first e); gathering = gathering; settling = λ e. absurd (last e) };
-      }
-
   -- a refusal
   pub refused-moved : (n : ℕ) → Moved f (file.refuses (f .count + 1) n) (atRefusal f n) k
   unfolding atRefusal progressOf
-  refused-moved n = moved-to (atRefusal f n) _ refl refl (λ e. omega arith) (λ e. omega arith) (λ e. absurd (omega arith)) refl
+  refused-moved n =
+      record {
+        empty = refl;
+        counted = refl;
+        stands = refl;
+        valid = valid-else _ k lent (omega arith) (λ e. omega arith) (λ e. omega arith) (λ e. omega arith);
+      }
 
   pub moved-as : {p q : Progress} {r g : MonthFile} → Moved f p r k → r ≡ g → p ≡ q → Moved f q g k
   moved-as {p} {q} {r} {g} m e d = subst (λ (h : MonthFile). Moved f q h k) e (subst (λ (h : Progress). Moved f h r k) d m)
@@ -87,8 +102,13 @@ module _ (f : MonthFile) (k : Kept) (lent : Lent k) where
       → Moved f (gathers (record { periods = periods; plants = plants; tariff = tariff }) [] []) (gathered (atStage f 1) periods plants tariff 0 0) k
   unfolding atStage progressOf rowsOf
   begun-moved periods plants tariff none s =
-      moved-to (gathered (atStage f 1) periods plants tariff 0 0) _ refl refl (λ e. omega arith) (λ e. omega arith)
-      (λ e. record { plants = s .plants; periods = s .periods; rows = omega arith; figures = omega (arith, s .somePeriods); counted = omega (arith, none) }) refl
+      record {
+        empty = refl;
+        counted = refl;
+        stands = refl;
+        valid = valid-gathering _ k lent (omega arith) refl
+            (record { plants = s .plants; periods = s .periods; rows = omega arith; figures = omega (arith, s .somePeriods); counted = omega (arith, none) });
+      }
 
   pub begins-by : (g : MonthFile) (periods plants tariff n : ℕ) → f .count ≡ 0 → n ≡ sizesNumber plants periods tariff → n ≡ 0 → g ≡ atStage f 1
       → Moved f (begun (f .count + 1) (record { periods = periods; plants = plants; tariff = tariff })) (gathered g periods plants tariff 0 0) k

@@ -24,7 +24,7 @@ use Rattle.file_lines.specs.declared.MonthFile.{MonthFile}
 use Rattle.file_lines.specs.File as file
 use Rattle.file_lines.specs.File.{settles, blank, opened}
 use Rattle.file_lines.specs.State.{Kept, kept, ledgerOf, progressOf, Lent, Moved, atStage, atRefusal, Openable, openedOf}
-use Rattle.file_lines.proofs.Moves.{moved-as, refuses-by}
+use Rattle.file_lines.proofs.Moves.{valid-settling, moved-as, refuses-by}
 
 -- the front of a list that is lent has as many elements as were asked for
 pub front-count {ℓ} : {A : Type ℓ} (n : ℕ) (l : List A) → n ≤ length l → n ≡ length (take n l)
@@ -167,20 +167,15 @@ module _ (f : MonthFile) (k : Kept) (o : Openable f k) (end : Opened) (ys : List
           empty = refl;
           counted = refl;
           stands = stands ∙ sym opens;
-          valid = record {
-            lent = lent-after k (o .lent) (f .plants) (o .plants) ys zs many more;
-            short = omega arith;
-            begun = λ q. absurd (omega arith);
-            gathering = λ q. absurd (omega arith);
-            settling = λ q. record {
-              plants = o .plants;
-              periods = o .periods;
-              due = omega arith;
-              counted = omega (arith, o .counted);
-              rows = asked.opened blank rows profile (f .tariff) _ none .1 .rows;
-              bounded = ap inBounds ledger-is ∙ zeros-in-bounds (f .plants);
-            };
-          };
+          valid = valid-settling _ after (lent-after k (o .lent) (f .plants) (o .plants) ys zs many more) (omega arith) refl
+              (record {
+                plants = o .plants;
+                periods = o .periods;
+                due = omega arith;
+                counted = omega (arith, o .counted);
+                rows = asked.opened blank rows profile (f .tariff) _ none .1 .rows;
+                bounded = ap inBounds ledger-is ∙ zeros-in-bounds (f .plants);
+              });
         }
 
     pub opening-opened : (g : MonthFile) → g ≡ atStage f 2 → Moved f (openedOf f k) (monthed g (end .month)) after

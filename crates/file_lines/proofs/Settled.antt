@@ -22,7 +22,7 @@ use Rattle.file_lines.specs.declared.MonthFile.{MonthFile}
 use Rattle.file_lines.specs.File as file
 use Rattle.file_lines.specs.File.{settles, settled}
 use Rattle.file_lines.specs.State.{Kept, ledgerOf, progressOf, Lent, Settling, Valid, Moved, atStage, atRefusal, settledOf}
-use Rattle.file_lines.proofs.Moves.{moved-as, refuses-by}
+use Rattle.file_lines.proofs.Moves.{valid-settling, moved-as, refuses-by}
 use Rattle.file_lines.proofs.Opened.{number-itself, monthed, withLedger, lent-after, ledger-after}
 
 -- of the allotment list settle asks the length alone
@@ -137,20 +137,15 @@ module _ (f : MonthFile) (k : Kept) (stage : f .stage ≡ 2) (v : Valid f k) (me
           empty = refl;
           counted = refl;
           stands = stands ∙ ap (λ (n : Month). settles rows profile n (record { allotted = ys; accounts = zs })) (sym month-is) ∙ sym settles-on;
-          valid = record {
-            lent = lents;
-            short = omega arith;
-            begun = λ q. absurd (omega arith);
-            gathering = λ q. absurd (omega arith);
-            settling = λ q. record {
-              plants = g .plants;
-              periods = g .periods;
-              due = omega (arith, settle-due m rows profile metered lent ledger none);
-              counted = omega (arith, g .counted);
-              rows = g .rows;
-              bounded = ap inBounds ledger-is ∙ ap (λ (r : SettleEnd). inBounds (r .ledger)) e ∙ settle-bounded m rows profile metered lent ledger none;
-            };
-          };
+          valid = valid-settling _ after lents (omega arith) refl
+              (record {
+                plants = g .plants;
+                periods = g .periods;
+                due = omega (arith, settle-due m rows profile metered lent ledger none);
+                counted = omega (arith, g .counted);
+                rows = g .rows;
+                bounded = ap inBounds ledger-is ∙ ap (λ (r : SettleEnd). inBounds (r .ledger)) e ∙ settle-bounded m rows profile metered lent ledger none;
+              });
         }
 
     pub settling-settled : (q : MonthFile) → q ≡ atStage f 2 → Moved f (settledOf f k metered) (monthed q (end .month)) after

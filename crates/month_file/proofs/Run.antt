@@ -10,6 +10,7 @@ use Rattle.month_file.specs.Bytes.{Reading, fedParts, finished}
 use Rattle.file_lines.specs.State.{Kept, progressOf, Lent, Valid, atStart}
 use Rattle.month_file.specs.Machine.{readingOf, Fresh}
 use Rattle.month_file.specs.Run.{Place, Feeds, none, more, Promised}
+use Rattle.file_lines.proofs.Moves.{valid-begun}
 use Rattle.month_file.proofs.Bytes as bytes
 
 abbrev readAt : Place → Reading
@@ -38,16 +39,7 @@ promised = record { valid = λ s r. feeds-valid (s .valid) r; written = feeds-wr
 start-fresh : (k : Kept) (line : List ℕ) → Lent k → Fresh atStart k line
 unfolding readingOf progressOf
 start-fresh k line lent =
-    record {
-      valid = record {
-        lent = lent;
-        short = omega arith;
-        begun = λ e. refl;
-        gathering = λ e. absurd (omega arith);
-        settling = λ e. absurd (omega arith);
-      };
-      stands = refl;
-    }
+    record { valid = valid-begun atStart k lent (omega arith) refl refl; stands = refl }
 
 -- what `fresh` answers
 pub fresh-is : {f : MonthFile} → f ≡ atStart → (k : Kept) (line : List ℕ) → Lent k → Fresh f k line

@@ -1,7 +1,8 @@
 -- `file_calls::is_valid` meets its contract. Assumes nothing.
 use native.Mathlib.Omega.{arith}
 use borrow.Author.Needs.{needs}
-use Rattle.file_calls.proofs.Checked.{yes, no, alike, by-equal, valid-begun, valid-gathering, valid-settling, valid-else}
+use Rattle.file_lines.proofs.Moves.{valid-begun, valid-gathering, valid-settling, valid-else}
+use Rattle.file_calls.proofs.Checked.{yes, no, alike, by-equal}
 use Rattle.file_calls.proofs.is_valid.Statement.{statement}
 use Rattle.file_calls.proofs.is_valid.Tie as tie
 

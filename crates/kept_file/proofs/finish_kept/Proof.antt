@@ -1,4 +1,5 @@
 -- `finish_kept` meets its contract. Assumes nothing.
+use borrow.Author.Needs.{needs}
 use Rattle.kept_file.proofs.KeptFiles.{finishes}
 use Rattle.kept_file.proofs.finish_kept.Statement.{statement}
 use Rattle.kept_file.proofs.finish_kept.Tie as tie
@@ -9,5 +10,5 @@ finish-kept-spec =
     (tie.spec
     (λ c κs. tt)  -- file-of-requires
     (λ c κs. tt)  -- finish-any-requires
-    (λ c. c .before .before .finish-any .kept .1 .1 .1 .1 .1 .1 .0)  -- same-length
+    (λ c. search needs)  -- same-length
     (λ c. finishes _ _ _ (c .before .before .before .before .file-of .ensures) (c .before .before .finish-any .ensures)))  -- returns

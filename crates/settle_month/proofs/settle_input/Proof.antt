@@ -20,19 +20,19 @@ settle-input-spec =
     (tie.spec
     (λ c κs. search needs)  -- fresh-requires
     (λ c κs. let s = c .before .before .before .before .before .before .before .before .before .before .before .before .before in (s .pre .0 .0, (fresh-is (c .before .before .before .before .before .before .fresh .ensures) (lists s) (s .args .line .now) (s .pre .1)) .valid))  -- take-input-requires
-    (λ c. c .before .before .before .before .before .before .before .before .before .before .before .before .before .take-input .kept .1 .0)  -- same-length
-    (λ c. c .before .before .before .before .before .before .before .before .before .before .before .before .before .take-input .kept .1 .1 .0)  -- same-length-2
-    (λ c. c .before .before .before .before .before .before .before .before .before .before .before .before .before .take-input .kept .1 .1 .1 .0)  -- same-length-3
-    (λ c. c .before .before .before .before .before .before .before .before .before .before .before .before .before .take-input .kept .1 .1 .1 .1 .0)  -- same-length-4
-    (λ c. c .before .before .before .before .before .before .before .before .before .before .before .before .before .take-input .kept .1 .1 .1 .1 .1 .0)  -- same-length-5
-    (λ c. c .before .before .before .before .before .before .before .before .before .before .before .before .before .take-input .kept .1 .1 .1 .1 .1 .1 .0)  -- same-length-6
+    (λ c. search needs)  -- same-length
+    (λ c. search needs)  -- same-length-2
+    (λ c. search needs)  -- same-length-3
+    (λ c. search needs)  -- same-length-4
+    (λ c. search needs)  -- same-length-5
+    (λ c. search needs)  -- same-length-6
     (λ c. unread refl refl)  -- returns
     (λ c κs. let s = c .before .before .before .before .before .before .before .before .before .before .before .before .before .before .before .before .before .before .before .before .before .before .before .before .before .before .before .before .before .before .before .before .before .before in let k = c .before .before .before .before .before .before .before .before .before .before .before .before .before .before .before .before .before .before .before .before .take-input .kept in ((omega (arith, s .pre .0 .0, k .1 .1 .0), s .pre .0 .1), taken-valid (fresh-is (c .before .before .before .before .before .before .before .before .before .before .before .before .before .before .before .before .before .before .before .before .before .before .before .before .before .before .before .fresh .ensures) (lists s) (s .args .line .now) (s .pre .1)) (c .before .before .before .before .before .before .before .before .before .before .before .before .before .before .before .before .before .before .before .before .take-input .ensures)))  -- finish-requires
-    (λ c. c .before .before .before .before .before .before .before .before .before .before .before .before .before .before .before .before .before .before .before .before .before .before .before .take-input .kept .1 .0)  -- same-length-7
-    (λ c. c .before .before .before .before .before .before .before .before .before .before .before .before .before .before .before .before .before .before .before .before .before .before .before .take-input .kept .1 .1 .0)  -- same-length-8
-    (λ c. c .before .before .before .before .before .before .before .before .before .before .before .before .before .before .before .before .before .before .before .before .before .before .before .take-input .kept .1 .1 .1 .0)  -- same-length-9
-    (λ c. c .before .before .before .before .before .before .before .before .before .before .before .before .before .before .before .before .before .before .before .before .before .before .before .take-input .kept .1 .1 .1 .1 .0)  -- same-length-10
-    (λ c. c .before .before .before .before .before .before .before .before .before .before .before .before .before .before .before .before .before .before .before .before .before .before .before .take-input .kept .1 .1 .1 .1 .1 .0)  -- same-length-11
-    (λ c. c .before .before .before .before .before .before .before .before .before .before .before .before .before .before .before .before .before .before .before .before .before .before .before .take-input .kept .1 .1 .1 .1 .1 .1 .0)  -- same-length-12
-    (λ c. c .before .before .finish .kept .1 .1 .1 .1 .1 .1 .0)  -- same-length-13
+    (λ c. search needs)  -- same-length-7
+    (λ c. search needs)  -- same-length-8
+    (λ c. search needs)  -- same-length-9
+    (λ c. search needs)  -- same-length-10
+    (λ c. search needs)  -- same-length-11
+    (λ c. search needs)  -- same-length-12
+    (λ c. search needs)  -- same-length-13
     (λ c. let s = c .before .before .before .before .before .before .before .before .before .before .before .before .before .before .before .before .before .before .before .before .before .before .before .before .before .before .before .before .before .before .before .before .before .before .before .before .before in taken-written (fresh-is (c .before .before .before .before .before .before .before .before .before .before .before .before .before .before .before .before .before .before .before .before .before .before .before .before .before .before .before .before .before .before .fresh .ensures) (lists s) (s .args .line .now) (s .pre .1)) (c .before .before .before .before .before .before .before .before .before .before .before .before .before .before .before .before .before .before .before .before .before .before .before .take-input .ensures) (c .before .before .finish .ensures)))  -- returns-2

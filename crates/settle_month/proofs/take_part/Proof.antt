@@ -17,9 +17,9 @@ take-part-spec =
     (λ c κs. search needs)  -- count-requires
     (λ c. search needs)  -- slice-aggregate-feed
     (λ c κs. search needs)  -- feed-requires
-    (λ c. c .before .before .before .before .before .before .before .before .before .feed .kept .1 .1 .0)  -- same-length
-    (λ c. c .before .before .before .before .before .before .before .before .before .feed .kept .1 .1 .1 .0)  -- same-length-2
-    (λ c. c .before .before .before .before .before .before .before .before .before .feed .kept .1 .1 .1 .1 .0)  -- same-length-3
-    (λ c. c .before .before .before .before .before .before .before .before .before .feed .kept .1 .1 .1 .1 .1 .0)  -- same-length-4
-    (λ c. c .before .before .before .before .before .before .before .before .before .feed .kept .1 .1 .1 .1 .1 .1 .0)  -- same-length-5
+    (λ c. search needs)  -- same-length
+    (λ c. search needs)  -- same-length-2
+    (λ c. search needs)  -- same-length-3
+    (λ c. search needs)  -- same-length-4
+    (λ c. search needs)  -- same-length-5
     (λ c. let s = c .before .before .before .before .before .before .before .before .before .before .before .before .before .before .before .before .before .before .before .before .before .before in let bytes = s .args .part .now in fed-same (c .before .before .before .before .before .before .before .before .before .feed .ensures) (ap (λ (n : ℕ). take n bytes) (c .before .before .before .before .before .before .before .before .before .before .before .before .before .before .before .before .count .ensures .1 ∙ ap (λ (z : ℤ). clamped z (length bytes)) (toZ-ofZ (s .fits .got))))))  -- returns

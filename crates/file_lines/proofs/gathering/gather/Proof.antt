@@ -25,7 +25,7 @@ gather-spec =
     (λ c κs. let s = c .before .before .before .before .before .before .before .before in let g = known s in (s .pre .1 .lent .columns, omega (arith, g .plants, c .before .before .if1 .taken)))  -- put-row-requires
     (λ c κs. let s = c .before .before .before .before .before .before .before .before .before .before .before in let g = known s in omega (arith, g .plants, g .periods, g .rows, g .figures, g .counted))  -- at-stage-requires
     (λ c. let s = c .before .before .before .before .before .before .before .before .before .before .before .before in let g = known s in omega (arith, g .plants, g .periods, g .rows, g .figures, g .counted))  -- add-f
-    (λ c. c .before .before .before .put-row .kept .0)  -- same-length
+    (λ c. search needs)  -- same-length
     (λ c. let s = c .before .before .before .before .before .before .before .before .before .before .before .before in row-moved _ (lists s) (s .pre .0 .0) (s .pre .1) _ (s .args .figures .now) (c .before .before .before .put-row .ensures ∙ ap (putRow (s .args .columns .now) (s .args .file .rows)) (c .before .before .before .before .before .plant-of .ensures)) (c .before .before .before .before .before .before .if1 .taken) _ (c .at-stage .ensures))  -- returns
     (λ c. search needs)  -- shared-slice-read-profile
     (λ c. let s = c .before .before .before .before .before .before .before in let g = known s in omega (arith, g .plants, g .periods, g .rows, g .figures, g .counted, s .pre .1 .lent .profile))  -- mul-profile
@@ -38,6 +38,6 @@ gather-spec =
     (λ c κs. let s = c .before .before .before .before .before .before .before .before .before .before .before .before .before in openable _ (lists s) (s .pre .0 .0) (s .pre .1) (s .args .figures .now) (c .before .before .before .before .before .before .before .if1 .left) (c .before .before .before .before .if2 .left))  -- open-month-requires
     (λ c. search needs)  -- same-length-3
     (λ c. search needs)  -- same-length-4
-    (λ c. c .before .before .before .open-month .kept .1 .1 .1 .0)  -- same-length-5
-    (λ c. c .before .before .before .open-month .kept .1 .1 .1 .1 .0)  -- same-length-6
+    (λ c. search needs)  -- same-length-5
+    (λ c. search needs)  -- same-length-6
     (λ c. let s = c .before .before .before .before .before .before .before .before .before .before .before .before .before .before .before .before .before in last-moved _ (lists s) (s .pre .0 .0) (s .pre .1) (s .args .figures .now) (c .before .before .before .before .before .before .before .before .before .before .before .if1 .left) (c .before .before .before .before .before .before .before .before .if2 .left) (c .before .before .before .open-month .ensures)))  -- returns-3

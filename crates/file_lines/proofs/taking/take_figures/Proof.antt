@@ -1,5 +1,4 @@
 -- `taking::take_figures` meets its contract. Assumes nothing.
-use mathlib.Core.Path.{refl}
 use native.Mathlib.Omega.{arith}
 use borrow.Author.Needs.{needs}
 use Rattle.file_lines.specs.State.{Kept, kept}
@@ -22,17 +21,17 @@ take-figures-spec =
     (λ c κs. let s = c .before .before .before .before .before .before .before .before .before in s .pre .1 .begun (c .before .before .before .if1 .taken))  -- begun-requires
     (λ c. let s = c .before .before .before .before .before .before .before .before .before .before in sizes-taken _ (lists s) (s .args .figures .now) (c .before .before .before .before .if1 .taken) (c .begun .ensures (lists s) (s .pre .1 .lent)))  -- returns
     (λ c κs. let s = c .before .before .before .before .before .before .before .before .before .before .before .before in ((c .before .before .before .before .if2 .taken, s .pre .0 .some, s .pre .0 .row (c .before .before .before .before .if2 .taken)), s .pre .1))  -- gather-requires
-    (λ c. c .before .before .before .before .before .before .before .gather .kept .1 .1 .0)  -- same-length
-    (λ c. c .before .before .before .before .before .before .before .gather .kept .1 .1 .1 .0)  -- same-length-2
-    (λ c. c .before .before .before .before .before .before .before .gather .kept .1 .1 .1 .1 .0)  -- same-length-3
-    (λ c. c .before .before .before .before .before .before .before .gather .kept .1 .1 .1 .1 .1 .0)  -- same-length-4
+    (λ c. search needs)  -- same-length
+    (λ c. search needs)  -- same-length-2
+    (λ c. search needs)  -- same-length-3
+    (λ c. search needs)  -- same-length-4
     (λ c. search needs)  -- returns-2
     (λ c. search needs)  -- sub-settle-line
     (λ c. search needs)  -- part-settle-line-start
     (λ c. search needs)  -- part-settle-line-end
     (λ c κs. let s = c .before .before .before .before .before .before .before .before .before .before .before .before .before in (third-stage _ (s .pre .0 .due) (c .before .before .before .before .before .before .before .if1 .left) (c .before .before .before .before .before .if2 .left), s .pre .1))  -- settle-line-requires
-    (λ c. refl)  -- same-length-5
-    (λ c. refl)  -- same-length-6
-    (λ c. c .before .before .before .settle-line .kept .1 .1 .1 .1 .0)  -- same-length-7
-    (λ c. c .before .before .before .settle-line .kept .1 .1 .1 .1 .1 .0)  -- same-length-8
+    (λ c. search needs)  -- same-length-5
+    (λ c. search needs)  -- same-length-6
+    (λ c. search needs)  -- same-length-7
+    (λ c. search needs)  -- same-length-8
     (λ c. let s = c .before .before .before .before .before .before .before .before .before .before .before .before .before .before .before .before .before in meters-taken _ (lists s) (s .args .figures .now) (third-stage _ (s .pre .0 .due) (c .before .before .before .before .before .before .before .before .before .before .before .if1 .left) (c .before .before .before .before .before .before .before .before .before .if2 .left)) (c .before .before .before .settle-line .ensures)))  -- returns-3

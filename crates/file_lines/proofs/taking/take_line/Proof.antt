@@ -39,8 +39,8 @@ take-line-spec =
     (λ c. let s = c .before .before .before .before .before .before .before .before .before .before .before in omega (arith, many, c .before .before .before .before .before .read-line .kept .1 .0, room _ (lists s) (s .pre .1) (s .pre .0) _ places _ _ many (c .before .before .before .before .before .read-line .ensures) (c .before .before .if1 .left)))  -- array-share-prefix-figures
     (λ c. let s = c .before .before .before .before .before .before .before .before .before .before .before .before in front-count _ _ (omega (arith, many, c .before .before .before .before .before .before .read-line .kept .1 .0, room _ (lists s) (s .pre .1) (s .pre .0) _ places _ _ many (c .before .before .before .before .before .before .read-line .ensures) (c .before .before .before .if1 .left))))  -- slice-aggregate-take-figures
     (λ c κs. let s = c .before .before .before .before .before .before .before .before .before .before .before .before .before .before .before .before in (figures-in-turn _ (lists s) (s .pre .1) (s .pre .0) _ places _ _ many (c .before .before .before .before .before .before .before .before .before .before .read-line .ensures) (c .before .before .before .before .before .before .before .if1 .left) (sym (c .before .before .before .before .before .before .in-turn .ensures) ∙ not-false _ (c .before .before .before .before .before .if2 .left)), s .pre .1))  -- take-figures-requires
-    (λ c. c .before .before .before .before .before .before .before .take-figures .kept .1 .1 .0)  -- same-length
-    (λ c. c .before .before .before .before .before .before .before .take-figures .kept .1 .1 .1 .0)  -- same-length-2
-    (λ c. c .before .before .before .before .before .before .before .take-figures .kept .1 .1 .1 .1 .0)  -- same-length-3
-    (λ c. c .before .before .before .before .before .before .before .take-figures .kept .1 .1 .1 .1 .1 .0)  -- same-length-4
+    (λ c. search needs)  -- same-length
+    (λ c. search needs)  -- same-length-2
+    (λ c. search needs)  -- same-length-3
+    (λ c. search needs)  -- same-length-4
     (λ c. let s = c .before .before .before .before .before .before .before .before .before .before .before .before .before .before .before .before .before .before .before .before .before .before .before .before in line-taken _ (lists s) (s .pre .1) (s .pre .0) _ places _ _ many (c .before .before .before .before .before .before .before .before .before .before .before .before .before .before .before .before .before .before .read-line .ensures) (c .before .before .before .before .before .before .before .before .before .before .before .before .before .before .before .if1 .left) (sym (c .before .before .before .before .before .before .before .before .before .before .before .before .before .before .in-turn .ensures) ∙ not-false _ (c .before .before .before .before .before .before .before .before .before .before .before .before .before .if2 .left)) (c .before .before .before .before .before .before .before .take-figures .ensures)))  -- returns-3

@@ -1,4 +1,5 @@
 -- `files::iolwarch_file_feed` meets its contract: it hands on. Assumes nothing.
+use borrow.Author.Needs.{needs}
 use Rattle.recorder.proofs.files.iolwarch_file_feed.Statement.{statement}
 use Rattle.recorder.proofs.files.iolwarch_file_feed.Tie as tie
 
@@ -7,9 +8,9 @@ iolwarch-file-feed-spec =
     tie.close
     (tie.spec
     (λ c κs. tt)  -- feed-kept-requires
-    (λ c. c .before .before .before .before .before .before .before .before .before .feed-kept .kept .1 .1 .0)  -- same-length
-    (λ c. c .before .before .before .before .before .before .before .before .before .feed-kept .kept .1 .1 .1 .0)  -- same-length-2
-    (λ c. c .before .before .before .before .before .before .before .before .before .feed-kept .kept .1 .1 .1 .1 .0)  -- same-length-3
-    (λ c. c .before .before .before .before .before .before .before .before .before .feed-kept .kept .1 .1 .1 .1 .1 .0)  -- same-length-4
-    (λ c. c .before .before .before .before .before .before .before .before .before .feed-kept .kept .1 .1 .1 .1 .1 .1 .0)  -- same-length-5
+    (λ c. search needs)  -- same-length
+    (λ c. search needs)  -- same-length-2
+    (λ c. search needs)  -- same-length-3
+    (λ c. search needs)  -- same-length-4
+    (λ c. search needs)  -- same-length-5
     (λ c. c .before .before .before .before .before .before .before .before .before .feed-kept .ensures))  -- returns

@@ -1,4 +1,5 @@
 -- `files::iolwarch_file_finish` meets its contract: it hands on. Assumes nothing.
+use borrow.Author.Needs.{needs}
 use Rattle.recorder.proofs.files.iolwarch_file_finish.Statement.{statement}
 use Rattle.recorder.proofs.files.iolwarch_file_finish.Tie as tie
 
@@ -7,5 +8,5 @@ iolwarch-file-finish-spec =
     tie.close
     (tie.spec
     (λ c κs. tt)  -- finish-kept-requires
-    (λ c. c .before .before .finish-kept .kept .1 .1 .1 .1 .1 .1 .0)  -- same-length
+    (λ c. search needs)  -- same-length
     (λ c. c .before .before .finish-kept .ensures))  -- returns

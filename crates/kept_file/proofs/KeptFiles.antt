@@ -11,11 +11,12 @@ use Rattle.file_calls.specs.declared.FinishAnswer.{FinishAnswer}
 use Rattle.file_calls.specs.Checking.{FeedLists, FedAny, FinishLists, FinishedAny}
 use Rattle.kept_file.specs.declared.KeptFile.{KeptFile}
 use Rattle.kept_file.specs.Files.{fileOf, keptFileOf, fileBack, FileFed}
+use Rattle.kept_file.specs.Laws.{Files}
 use Rattle.kept_month.proofs.Kept.{months}
 
-pub same-file : (f : MonthFile) → fileOf (keptFileOf f) ≡ f
+pub files : Files
 unfolding fileOf keptFileOf
-same-file f = rw (months .back (f .month))
+files = record { back = λ f. rw (months .back (f .month)) }
 
 pub back-refused : (n : ℕ) (k : KeptFile) (f : MonthFile) → (n ≡ 0 → ⊥) → k ≡ fileBack n k f
 unfolding fileBack
@@ -38,7 +39,7 @@ module _ (k : KeptFile) (part : List ℕ) (l after : FeedLists) {f : MonthFile} 
           let is : fileBack (x .number) k (x .file) ≡ keptFileOf (x .file) = rw z in
           let back : r ≡ keptFileOf (x .file) = e ∙ is in
           record {
-            fed = subst (λ (g : MonthFile). FedAny (fileOf k) part l (record { number = x .number; file = g }) after) (sym (ap fileOf back ∙ same-file (x .file))) meant;
+            fed = subst (λ (g : MonthFile). FedAny (fileOf k) part l (record { number = x .number; file = g }) after) (sym (ap fileOf back ∙ files .back (x .file))) meant;
             same = λ n. absurd (n z);
           }
       by (suc n) z =

@@ -9,6 +9,7 @@ use Rattle.kept_file.specs.declared.KeptFile.{KeptFile}
 use Rattle.kept_file.specs.declared.KeptFed.{KeptFed}
 use Rattle.kept_month.specs.Months.{monthOf, keptOf}
 
+-- the state that C's stands for, and how a state is kept for C
 unfoldable pub fileOf : KeptFile → MonthFile
 fileOf k =
     record {

@@ -31,9 +31,6 @@ feeds-written {parts = parts} {before} {n} {after} s r h =
     subst (λ (t : List ℕ). Fills t before n after)
     (ap finished (feeds-stand r ∙ ap (λ (q : Reading). fedParts q parts) (s .stands)) ∙ bytes.promised .cut parts) h
 
-pub promised : Promised
-promised = record { valid = λ s r. feeds-valid (s .valid) r; written = feeds-written }
-
 -- ---- before the first byte
 
 start-fresh : (k : Kept) (line : List ℕ) → Lent k → Fresh atStart k line
@@ -44,3 +41,6 @@ start-fresh k line lent =
 -- what `fresh` answers
 pub fresh-is : {f : MonthFile} → f ≡ atStart → (k : Kept) (line : List ℕ) → Lent k → Fresh f k line
 fresh-is e k line lent = subst (λ (f : MonthFile). Fresh f k line) (sym e) (start-fresh k line lent)
+
+pub promised : Promised
+promised = record { fresh = start-fresh; valid = λ s r. feeds-valid (s .valid) r; written = feeds-written }

@@ -5,7 +5,7 @@ use Rattle.statement.specs.Writing.{Fills}
 use Rattle.file_lines.specs.declared.MonthFile.{MonthFile}
 use Rattle.file_lines.specs.File.{settledFile}
 use Rattle.month_file.specs.Bytes.{finished}
-use Rattle.file_lines.specs.State.{Kept, Valid}
+use Rattle.file_lines.specs.State.{Kept, Lent, Valid, atStart}
 use Rattle.month_file.specs.Machine.{readingOf, Fresh, Fed}
 
 -- what goes on from part to part: the state, the lists that it keeps, and the line that has begun
@@ -21,6 +21,8 @@ pub data Feeds : Place → List (List ℕ) → Place → Type 0 where
       → Feeds a (part ∷ parts) c
 
 pub record Promised : Type 0 where
+  -- the state before the first byte is fresh, with any lists that are long enough
+  pub fresh : (k : Kept) (line : List ℕ) → Lent k → Fresh atStart k line
   -- `feed` and `finish` may be called after any parts
   pub valid : {a b : Place} {parts : List (List ℕ)} → Fresh (a .file) (a .lists) (a .line) → Feeds a parts b → Valid (b .file) (b .lists)
   -- what `finish` promises to write after any parts is what the file's definition prints for their bytes, however they were cut

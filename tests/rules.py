@@ -107,7 +107,10 @@ def row_of(cells, edits, parts, public):
 
 
 def rows():
-    edits = set(re.findall(r"^# (\w+): ", text(CRATES.glob("*/must-fail/*.edit")), re.M))
+    named = re.findall(r"^# (\w+): ", text(CRATES.glob("*/must-fail/*.edit")), re.M)
+    edits = set(named)
+    for name in sorted(edits):
+        check(named.count(name) == 1, f"two wrong answers are named {name}, so a row's edit may be either")
     parts = set(re.findall(r'\("(\w+)", \w+::run\)', (ROOT / "tests" / "src" / "main.rs").read_text()))
     lines = (ROOT / "docs" / "RULES.md").read_text().splitlines()
     table = [[cell.strip() for cell in line.strip("|").split("|")] for line in lines if re.match(r"\| [A-Z]\d+", line)]

@@ -328,8 +328,8 @@ iolwarch_place iolwarch_field(const uint8_t *line, size_t line_length, uint64_t 
  * The plant table lies in IOLWARCH_COLUMNS figures, column by column in the order of a P line (submarket, number,
  * guarantee, loss, availability): 512 places for each column, of which the rows that were read take the first.
  *
- * Longer lists will do; only so much of them is used. Each call looks over the table and the ledger that are kept, so
- * few long parts are cheaper than many short ones. */
+ * Longer lists will do; keep nothing of your own behind what is used: a feed may write there. Each call looks over the
+ * table and the ledger that are kept, so few long parts are cheaper than many short ones. */
 
 /* Begins a file.
  *
@@ -363,7 +363,8 @@ iolwarch_fed iolwarch_file_feed(iolwarch_file file,
  * Answers  0 and how many bytes were written; or 30, a list is too short, 22, the text is, or 31, as for feed (put in
  *          this order), and 0.
  * Leaves   with 0 what is printed at the front of the text and the rest of it as it was; otherwise the whole text as it
- *          was. The other lists are only read.
+ *          was. The other lists are only read, and the state stays the caller's, so a file may be finished again, or
+ *          fed on after a finish that looked at how far it has come.
  */
 iolwarch_finished iolwarch_file_finish(iolwarch_file file,
                                        const uint8_t *line, size_t line_length,

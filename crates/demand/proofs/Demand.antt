@@ -10,7 +10,7 @@ use lib.ListN.{length, drop}
 use Rattle.lists.specs.Lists.{sum, sumℤ}
 use Rattle.lists.specs.Columns.{four, at}
 use Rattle.lists.specs.Questions.{outcome}
-use Rattle.lists.proofs.Questions.{accepted, asked, parted}
+use Rattle.lists.proofs.Questions.{accepted, asked, parted, number-itself, outcome-part}
 use Rattle.hour.specs.declared.Plant.{Plant}
 use Rattle.hour.specs.Hour.{Hour, hourOf, surplus, coverTable, secondaryTable}
 use Rattle.hour.proofs.Hour.{sent-sum}
@@ -25,7 +25,7 @@ use Rattle.month.specs.Statement.{dueNumber, sizingNumber, statementNumber, sta
 use Rattle.statement.specs.Statement.{statementText}
 use Rattle.demand.specs.Tally.{Call, opens, settles, balances, closes, State, number, next, after, entries, Tally, tallied, tally, hoursAfter, hours, summed, netOf, moneyOf, AddsUp, IsTally, Left, sent, Demand3·holds, StatementOfTally·holds}
 use Rattle.demand.proofs.Sums.{zeros-add-up, zeros-priced, posted-adds-up, posted-priced}
-use Rattle.month.proofs.Accepted.{Settles, settle-accepted, close-accepted, balance-accepted}
+use Rattle.month.proofs.Accepted.{open-number, settle-number, balance-number, close-number, Settles, settle-accepted, close-accepted, balance-accepted}
 
 -- what holds between two calls
 abbrev Inv : State → State → Option Tally → List Hour → Type 0
@@ -61,31 +61,6 @@ by-number : {A : Type 0} (f : A → State) (n : ℕ) (done : A) (kept : ℕ → 
 unfolding outcome
 by-number f zero done kept s e = refl
 by-number f (suc n) done kept s e = e (suc n)
-
--- the number of a call's end is the call's number
-number-is : {A : Type 0} (g : A → ℕ) (n : ℕ) (done : A) (kept : ℕ → A) → g done ≡ 0 → ((k : ℕ) → g (kept k) ≡ k) → g (outcome n done kept) ≡ n
-unfolding outcome
-number-is g zero done kept z e = z
-number-is g (suc n) done kept z e = e (suc n)
-
-open-number : (m : Month) (plants : List Plant) (profile : List ℕ) (tariff : ℕ) (l : Ledger)
-    → openCall m plants profile tariff l .answer .number ≡ openNumber m plants profile tariff l
-unfolding openCall
-open-number m plants profile tariff l = number-is (λ (r : OpenEnd). r .answer .number) (openNumber m plants profile tariff l) _ _ refl (λ k. refl)
-
-settle-number : (m : Month) (plants : List Plant) (profile metered lent : List ℕ) (l : Ledger)
-    → settleCall m plants profile metered lent l .answer .number ≡ settleNumber m plants profile metered lent l
-unfolding settleCall
-settle-number m plants profile metered lent l =
-    number-is (λ (r : SettleEnd). r .answer .number) (settleNumber m plants profile metered lent l) _ _ refl (λ k. refl)
-
-balance-number : (m : Month) (l : Ledger) → balanceCall m l .number ≡ balanceNumber m l
-unfolding balanceCall
-balance-number m l = number-is (λ (r : Balanced). r .number) (balanceNumber m l) _ _ refl (λ k. refl)
-
-close-number : (m : Month) → closeCall m .number ≡ closeNumber m
-unfolding closeCall
-close-number m = number-is (λ (r : Ended). r .number) (closeNumber m) _ _ refl (λ k. refl)
 
 next-is : (s : State) (c : Call) → next s c ≡ outcome (number s c) (changed s c) (λ _. s)
 unfolding next number changed
@@ -237,7 +212,7 @@ demand3 start blank calls =
 -- an accepted statement is of a month that is not blank, and writes its text
 statement-number : (m : Month) (plants : List Plant) (l : Ledger) (lent : List ℕ) → statementCall m plants l lent .answer .number ≡ statementNumber m plants l (length lent)
 unfolding statementCall
-statement-number m plants l lent = number-is (λ (r : StatementEnd). r .answer .number) (statementNumber m plants l (length lent)) _ _ refl (λ k. refl)
+statement-number m plants l lent = outcome-part (λ (r : StatementEnd). r .answer .number) (statementNumber m plants l (length lent)) _ _ ∙ number-itself _
 
 statement-not-blank : (m : Month) (plants : List Plant) (l : Ledger) (n : ℕ) → statementNumber m plants l n ≡ 0 → not (isBlank (m .stage)) ≡ true
 unfolding statementNumber sizingNumber dueNumber

@@ -8,12 +8,11 @@ use borrow.Author.Tests.{leb-true, eqb-true, le-leb, eq-eqb}
 use lib.Dec.{eqb, leb}
 use lib.ListN.{length, drop, getD, replicate}
 use Rattle.lists.specs.Questions.{outcome}
-use Rattle.lists.proofs.Questions.{accepted, outcome-part, asked, both}
+use Rattle.lists.proofs.Questions.{accepted, asked, both}
 use Rattle.lines.specs.Reading.{lineStart}
 use Rattle.hour.specs.declared.Plant.{Plant}
 use Rattle.ledger.specs.Ledger.{Ledger}
 use Rattle.month.specs.declared.Month.{Month}
-use Rattle.month.specs.declared.Ended.{Ended}
 use Rattle.month.specs.Questions.{closeNumber}
 use Rattle.month.specs.Calls.{SettleEnd, settleCall, closeCall}
 use Rattle.statement.specs.Statement.{statementText}
@@ -23,8 +22,8 @@ use Rattle.file_lines.specs.File.{FileLine, whole, Progress, settles, figuresOf
 use Rattle.file_lines.specs.File as file
 use Rattle.file_lines.specs.State.{isRefused}
 use Rattle.file_demand.specs.Sums.{meteredIn, hourCalls, Accepted, Rising, Readable}
-use Rattle.file_lines.proofs.Opened.{number-itself}
-use Rattle.file_lines.proofs.Settled.{settle-number, onward, settle-month}
+use Rattle.month.proofs.Accepted.{settle-number, close-number}
+use Rattle.file_lines.proofs.Settled.{onward, settle-month}
 use Rattle.file_demand.proofs.Followed.{Followed, holds, on, later, stopped, ended-early, by-number, IsRead, by-line, line-taken, AreLines, next-line, no-lines, one-line, after-one, rising-as}
 
 abbrev state : Month → Ledger → State
@@ -65,9 +64,9 @@ module _ (plants : List Plant) (profile : List ℕ) (m : Month) (l : Ledger) whe
 
 -- 20, of an accepted close
 close-due : (m : Month) → closeCall m .number ≡ 0 → m .due ≡ m .periods + 1
-unfolding closeCall closeNumber
+unfolding closeNumber
 close-due m z =
-    let asks : closeNumber m ≡ 0 = sym (outcome-part (λ (r : Ended). r .number) (closeNumber m) _ _ ∙ number-itself _) ∙ z in
+    let asks : closeNumber m ≡ 0 = sym (close-number m) ∙ z in
     eqb-true _ _ (asked _ _ [] tt (asked _ _ _ tt (asked _ _ _ tt asks .1) .1) .0)
 
 -- a G line: its period is settled

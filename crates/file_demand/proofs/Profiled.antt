@@ -20,7 +20,7 @@ use Rattle.demand.specs.Tally.{number, after, entries}
 use Rattle.file_lines.specs.File.{FileLine, whole, Sizes, Progress, gathers, figuresOf, inTurn, blank, opened, taken, printed, following}
 use Rattle.file_lines.specs.State.{isRefused}
 use Rattle.file_demand.specs.Sums.{profileIn, meteredIn, fileCalls, unopened, Accepted, Rising, Readable}
-use Rattle.file_lines.proofs.Opened.{open-number}
+use Rattle.month.proofs.Accepted.{open-number}
 use Rattle.file_demand.proofs.Followed.{Followed, on, later, ended-early, by-number, IsRead, by-line, line-taken, AreLines, next-line, count, no-lines, one-line, after-one, rising-as}
 use Rattle.file_demand.proofs.Metered.{Due, Metered, metering, metered}
 use Rattle.file_demand.proofs.Worked.{textOf}

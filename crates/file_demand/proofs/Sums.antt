@@ -19,7 +19,7 @@ use Rattle.demand.specs.Tally.{number, entries}
 use Rattle.file_lines.specs.File.{FileLine, whole, lines, Progress, begins, inTurn, begun, taken, refusal, printed, following, settledFile}
 use Rattle.file_lines.specs.State.{isRefused}
 use Rattle.file_demand.specs.Sums.{sizesIn, plantsIn, profileIn, meteredIn, Readable, WholeFile, SettledAs, SettledAs·holds, Outcome, settled, refused, Outcome·holds}
-use Rattle.file_lines.proofs.Opened.{open-number}
+use Rattle.month.proofs.Accepted.{open-number}
 use Rattle.file_demand.proofs.Followed as followed
 use Rattle.file_demand.proofs.Followed.{Followed, holds, on, by-number, IsRead, by-line, line-taken, next-line, count}
 use Rattle.file_demand.proofs.Worked.{textOf, states}

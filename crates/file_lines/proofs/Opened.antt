@@ -1,13 +1,13 @@
 -- The month opened after the last H line. Assumes nothing.
 use mathlib.Core.Path.{_≡_, refl, sym, ap, ap₂, _∙_}
 use mathlib.Core.List.{List, _++_}
-use Prim.Native.Nat.{ℕ, zero, suc, _+_, _*_, _≤_}
+use Prim.Native.Nat.{ℕ, _+_, _*_, _≤_}
 use native.Mathlib.Omega.{arith}
 use lib.IntN.{ℤ, pos}
 use lib.ListN.{length, take, drop, length-replicate}
 use lib.Seq.{length-take-le, length-front, take-at}
 use Rattle.lists.specs.Questions.{outcome}
-use Rattle.lists.proofs.Questions.{accepted, outcome-part}
+use Rattle.lists.proofs.Questions.{accepted}
 use Rattle.hour.specs.declared.Plant.{Plant}
 use Rattle.records.specs.Records.{rowsOf}
 use Rattle.records.proofs.Figures.{length-rows}
@@ -19,6 +19,7 @@ use Rattle.month.specs.declared.Stage.the-variants.{Open}
 use Rattle.questions.specs.Questions.{lengthsNumber, tablesNumber}
 use Rattle.month.specs.Questions.{openNumber}
 use Rattle.month.specs.Calls.{OpenEnd, openCall}
+use Rattle.month.proofs.Accepted.{open-number}
 use Rattle.month.proofs.Asked as asked
 use Rattle.file_lines.specs.declared.MonthFile.{MonthFile}
 use Rattle.file_lines.specs.File as file
@@ -30,20 +31,11 @@ use Rattle.file_lines.proofs.Moves.{valid-settling, moved-as, refuses-b
 pub front-count {ℓ} : {A : Type ℓ} (n : ℕ) (l : List A) → n ≤ length l → n ≡ length (take n l)
 front-count n l h = sym (length-take-le n l h)
 
-pub number-itself : (n : ℕ) → outcome n 0 (λ k. k) ≡ n
-unfolding outcome
-number-itself zero = refl
-number-itself (suc n) = refl
-
 -- of the ledger open asks the lengths alone
 open-alike : (m : Month) (plants : List Plant) (profile : List ℕ) (t : ℕ) (l g : Ledger) → length (l .allotted) ≡ length (g .allotted) → length (l .accounts) ≡ length (g .accounts)
     → openNumber m plants profile t l ≡ openNumber m plants profile t g
 unfolding openNumber tablesNumber lengthsNumber
 open-alike m plants profile t l g p q = rw (p, q)
-
-pub open-number : (m : Month) (plants : List Plant) (profile : List ℕ) (t : ℕ) (l : Ledger) → openCall m plants profile t l .answer .number ≡ openNumber m plants profile t l
-unfolding openCall
-open-number m plants profile t l = outcome-part (λ (r : OpenEnd). r .answer .number) (openNumber m plants profile t l) _ _ ∙ number-itself _
 
 -- a state with another month
 abbrev pub monthed : MonthFile → Month → MonthFile

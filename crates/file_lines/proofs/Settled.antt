@@ -7,7 +7,7 @@ use native.Mathlib.Omega.{arith}
 use lib.IntN.{ℤ}
 use lib.ListN.{length, take, replicate, length-replicate}
 use Rattle.lists.specs.Questions.{outcome}
-use Rattle.lists.proofs.Questions.{accepted, outcome-part, parted, asked, both}
+use Rattle.lists.proofs.Questions.{accepted, parted, asked, both}
 use Rattle.hour.specs.declared.Plant.{Plant}
 use Rattle.hour.specs.Hour.{hourOf, allotment}
 use Rattle.records.specs.Records.{rowsOf}
@@ -17,25 +17,20 @@ use Rattle.month.specs.declared.Month.{Month}
 use Rattle.month.specs.declared.Settled.{Settled}
 use Rattle.month.specs.Questions.{boundsNumber, settleNumber, posted}
 use Rattle.month.specs.Calls.{SettleEnd, settleCall}
+use Rattle.month.proofs.Accepted.{settle-number}
 use Rattle.month.proofs.Asked as question
 use Rattle.file_lines.specs.declared.MonthFile.{MonthFile}
 use Rattle.file_lines.specs.File as file
 use Rattle.file_lines.specs.File.{settles, settled}
 use Rattle.file_lines.specs.State.{Kept, ledgerOf, progressOf, Lent, Settling, Valid, Moved, atStage, atRefusal, settledOf}
 use Rattle.file_lines.proofs.Moves.{valid-settling, moved-as, refuses-by}
-use Rattle.file_lines.proofs.Opened.{number-itself, monthed, withLedger, lent-after, ledger-after}
+use Rattle.file_lines.proofs.Opened.{monthed, withLedger, lent-after, ledger-after}
 
 -- of the allotment list settle asks the length alone
 settle-alike : (m : Month) (plants : List Plant) (profile metered lent other : List ℕ) (l : Ledger) → length lent ≡ length other
     → settleNumber m plants profile metered lent l ≡ settleNumber m plants profile metered other l
 unfolding settleNumber
 settle-alike m plants profile metered lent other l p = rw p
-
-pub settle-number : (m : Month) (plants : List Plant) (profile metered lent : List ℕ) (l : Ledger)
-    → settleCall m plants profile metered lent l .answer .number ≡ settleNumber m plants profile metered lent l
-unfolding settleCall
-settle-number m plants profile metered lent l =
-    outcome-part (λ (r : SettleEnd). r .answer .number) (settleNumber m plants profile metered lent l) _ _ ∙ number-itself _
 
 -- accepted, what settle answers and leaves does not hang on the allotment list lent
 settle-same : (m : Month) (plants : List Plant) (profile metered lent other : List ℕ) (l : Ledger)

@@ -1,23 +1,43 @@
--- What an accepted call tells: the month's stage, and that the hour of an accepted settle is sound. Assumes nothing.
+-- The number that a call answers, and what an accepted call tells: the month's stage, and that the hour of an accepted settle is sound. Assumes nothing.
 use mathlib.Core.Path.{_≡_, sym, _∙_}
 use mathlib.Core.Bool.{true, not}
-use Prim.Native.Nat.{ℕ, zero, suc, _≤_, _<_}
-use native.Mathlib.Omega.{arith}
-use native.Mathlib.Nat.{le-of-suc-le-suc}
+use Prim.Native.Nat.{ℕ}
 use mathlib.Core.List.{List, [], _∷_, map}
 use borrow.Author.Tests.{leb-true, eqb-true}
 use lib.ListN.{length, length-map}
-use Rattle.lists.proofs.Questions.{asked, parted, both, limits, then-zero}
-use Rattle.lists.proofs.Columns.{_!_}
+use Rattle.lists.proofs.Questions.{asked, parted, both, limits, then-zero, number-itself, outcome-part}
 use Rattle.sharing.proofs.Sharing.{share-lawful}
 use Rattle.blocks.specs.Portion.{Standing}
+use Rattle.blocks.proofs.Blocks.{placed-at}
 use Rattle.hour.specs.declared.Plant.{Plant}
 use Rattle.hour.specs.Hour.{hourOf, submarkets}
 use Rattle.hour.proofs.Hour.{Sound}
 use Rattle.ledger.specs.Ledger.{Ledger}
 use Rattle.month.specs.declared.Month.{Month}
 use Rattle.questions.specs.Questions.{placed, rowNumber, rowsNumber, tablesNumber}
-use Rattle.month.specs.Questions.{isOpen, isBlank, ownNumber, meteredNumber, settleNumber, closeNumber, balanceNumber}
+use Rattle.month.specs.declared.Balanced.{Balanced}
+use Rattle.month.specs.declared.Ended.{Ended}
+use Rattle.month.specs.Questions.{isOpen, isBlank, openNumber, ownNumber, meteredNumber, settleNumber, closeNumber, balanceNumber}
+use Rattle.month.specs.Calls.{OpenEnd, openCall, SettleEnd, settleCall, balanceCall, closeCall}
+
+-- the number answered is that of the questions
+pub open-number : (m : Month) (plants : List Plant) (profile : List ℕ) (t : ℕ) (l : Ledger) → openCall m plants profile t l .answer .number ≡ openNumber m plants profile t l
+unfolding openCall
+open-number m plants profile t l = outcome-part (λ (r : OpenEnd). r .answer .number) (openNumber m plants profile t l) _ _ ∙ number-itself _
+
+pub settle-number : (m : Month) (plants : List Plant) (profile metered lent : List ℕ) (l : Ledger)
+    → settleCall m plants profile metered lent l .answer .number ≡ settleNumber m plants profile metered lent l
+unfolding settleCall
+settle-number m plants profile metered lent l =
+    outcome-part (λ (r : SettleEnd). r .answer .number) (settleNumber m plants profile metered lent l) _ _ ∙ number-itself _
+
+pub balance-number : (m : Month) (l : Ledger) → balanceCall m l .number ≡ balanceNumber m l
+unfolding balanceCall
+balance-number m l = outcome-part (λ (r : Balanced). r .number) (balanceNumber m l) _ _ ∙ number-itself _
+
+pub close-number : (m : Month) → closeCall m .number ≡ closeNumber m
+unfolding closeCall
+close-number m = outcome-part (λ (r : Ended). r .number) (closeNumber m) _ _ ∙ number-itself _
 
 abbrev subs : List Plant → List ℕ
 subs ps = map (λ (p : Plant). p .submarket) ps
@@ -31,12 +51,6 @@ rows-standing s n (p ∷ ps) e =
     let g = both _ _ (asked _ _ _ tt (f .0) .0) in
     let k = limits _ _ _ (g .0) in
     (leb-true s (p .submarket) (g .1), k .0, k .1, rows-standing (p .submarket) (p .number) ps (f .1))
-
--- ... in submarkets 1 to 4
-standing-placed : (s : ℕ) (ts : List ℕ) → Standing s ts → (i : ℕ) → i < length ts → (1 ≤ ts ! i) × (ts ! i ≤ 4)
-standing-placed s [] e i h = absurd (omega arith)
-standing-placed s (t ∷ ts) e zero h = (e .1, e .2)
-standing-placed s (t ∷ ts) e (suc i) h = standing-placed t ts (e .3) i (le-of-suc-le-suc h)
 
 -- a settle call that is accepted: the month is open, and the hour is sound, whatever its period
 pub record Settles (m : Month) (plants : List Plant) (profile metered : List ℕ) : Type 0 where
@@ -58,7 +72,7 @@ settle-accepted m plants profile metered lent l e =
       isOpened = open′ .0;
       sound = λ k. record {
         lawful = share-lawful;
-        placed = λ i h. standing-placed 0 (subs plants) rows i (rw length-map h);
+        placed = λ i h. placed-at 0 (subs plants) rows i (rw length-map h);
         metered = eqb-true (length metered) (m .plants) count ∙ sym (eqb-true (length plants) (m .plants) many);
       };
     }

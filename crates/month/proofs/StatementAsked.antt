@@ -1,11 +1,11 @@
 -- The statement's questions answered yes: its figures are within limits, and what the two calls answer and leave. Assumes nothing.
 use mathlib.Core.Path.{_≡_, refl, sym, ap, ap₂, _∙_, subst}
-use mathlib.Core.List.{List, [], _∷_, _++_, map}
-use Prim.Native.Nat.{ℕ, zero, suc, _+_, _-_, _≤_, _<_, zero-le}
+use mathlib.Core.List.{List, [], _++_}
+use Prim.Native.Nat.{ℕ, _+_, _-_, _≤_, _<_}
 use native.Mathlib.Omega.{arith}
 use borrow.Author.Tests.{leb-true, eqb-true, le-leb, lt-leb}
-use lib.ListN.{length, drop, getD}
-use Rattle.lists.proofs.Questions.{asked, parted, both, limits, then-zero, yes, no, part-yes, part-no, all-yes, refuses, accepts}
+use lib.ListN.{length, drop}
+use Rattle.lists.proofs.Questions.{asked, parted, limits, yes, no, part-yes, part-no, all-yes, refuses, accepts}
 use Rattle.hour.specs.declared.Plant.{Plant}
 use Rattle.hour.specs.Table.{plantsOf}
 use Rattle.records.specs.Records.{columnOf, rowsOf}
@@ -19,9 +19,8 @@ use Rattle.statement.proofs.Text.{text-columns}
 use Rattle.statement.proofs.Limits.{callable, promised}
 use Rattle.month.specs.declared.Month.{Month}
 use Rattle.month.specs.declared.Sized.{Sized}
-use Rattle.questions.specs.Questions.{placed, numbered, rowNumber, rowsNumber}
 use Rattle.month.specs.Statement.{dueNumber, sizingNumber, statementNumber, statementOf, StatementEnd, statementCall, Sizing}
-use Rattle.questions.proofs.Asked.{lengths}
+use Rattle.questions.proofs.Asked.{lengths, rows-shown}
 
 -- 21, 2, 3, 13 and 14, with so many rows lent
 pub record Due (m : Month) (rows : ℕ) : Type 0 where
@@ -39,17 +38,6 @@ due m rows k e z =
     let q₁₃ = asked _ _ _ tt (q₃ .1) in
     let d = limits _ _ _ (asked _ _ [] tt (q₁₃ .1) .0) in
     record { plants = limits _ _ _ (q₂ .0) .1; periods = limits _ _ _ (q₃ .0) .1; lent = eqb-true _ _ (q₁₃ .0); begun = d .0; due = d .1 }
-
--- 5 and 6 of every row: submarket and number in limits
-rows-shown : (s n : ℕ) (ps : List Plant) → rowsNumber s n ps ≡ 0 → (i : ℕ)
-    → (getD (map (λ (p : Plant). p .submarket) ps) i 0 ≤ 4) × (getD (map (λ (p : Plant). p .number) ps) i 0 ≤ 999999)
-unfolding rowsNumber rowNumber placed numbered
-rows-shown s n [] e i = (zero-le, zero-le)
-rows-shown s n (p ∷ ps) e zero =
-    let q₅ = asked _ _ _ tt (then-zero _ _ e .0) in
-    let q₆ = asked _ _ _ tt (q₅ .1) in
-    (limits _ _ _ (both _ _ (q₅ .0) .0) .1, limits _ _ _ (both _ _ (q₆ .0) .0) .1)
-rows-shown s n (p ∷ ps) e (suc i) = rows-shown (p .submarket) (p .number) ps (then-zero _ _ e .1) i
 
 -- ... 5 to 8, 11 and 19
 pub record SizingAsked (m : Month) (plants : List Plant) (l : Ledger) : Type 0 where

@@ -1,14 +1,14 @@
 -- The end of the file: the refusal, or the statement after close. Assumes nothing.
 use mathlib.Core.Path.{_≡_, refl, sym, ap, ap₂, subst, _∙_}
 use mathlib.Core.Bool.{false}
-use mathlib.Core.List.{List, [], _∷_, _++_, map, append-assoc}
+use mathlib.Core.List.{List, [], _∷_, _++_, append-assoc}
 use Prim.Native.Nat.{ℕ, zero, suc, _+_, _-_, _*_, _^_, _≤_, _<_}
 use native.Mathlib.Omega.{arith}
 use borrow.Author.Tests.{eq-eqb, ne-eqb}
-use lib.ListN.{length, take, getD, length-append}
+use lib.ListN.{length, take, length-append}
 use lib.Seq.{length-take-le}
 use Rattle.lists.specs.Questions.{outcome}
-use Rattle.lists.proofs.Questions.{accepted, refuses, outcome-part, asked, both, limits, then-zero}
+use Rattle.lists.proofs.Questions.{accepted, refuses, outcome-part}
 use Rattle.figures.specs.Figures.{figure, commasBefore, byCommas, figureLength}
 use Rattle.lines.specs.Reading.{readNumber, ReadEnd, readCall}
 use Rattle.lines.specs.declared.reading.Line.{Line}
@@ -21,7 +21,7 @@ use Rattle.records.proofs.Figures.{length-rows, length-column, columns-rows}
 use Rattle.ledger.specs.Ledger.{Ledger}
 use Rattle.month.specs.declared.Month.{Month}
 use Rattle.month.specs.declared.Ended as month
-use Rattle.questions.specs.Questions.{placed, numbered, rowNumber, rowsNumber}
+use Rattle.questions.proofs.Asked.{rows-shown}
 use Rattle.month.specs.Questions.{closeNumber}
 use Rattle.month.specs.Calls.{closeCall}
 use Rattle.statement.specs.Statement.{line, statementText, roomFor}
@@ -124,17 +124,6 @@ module _ (f : MonthFile) (k : Kept) (v : Valid f k) (line : List ℕ) where
           record { prints = no-line; finishable = λ _. record { valid = v; settling = h; last = omega (arith, v .settling h .due) } }
 
 -- ---- the statement after close
-
--- rows that passed 5 and 6
-rows-shown : (s n : ℕ) (ps : List Plant) → rowsNumber s n ps ≡ 0
-    → (i : ℕ) → (getD (map (λ (p : Plant). p .submarket) ps) i 0 ≤ 4) × (getD (map (λ (p : Plant). p .number) ps) i 0 ≤ 999999)
-unfolding rowsNumber rowNumber placed numbered
-rows-shown s n [] e i = (omega arith, omega arith)
-rows-shown s n (p ∷ ps) e zero =
-    let q₅ = asked _ _ _ tt (then-zero _ _ e .0) in
-    let q₆ = asked _ _ _ tt (q₅ .1) in
-    (limits _ _ _ (both _ _ (q₅ .0) .0) .1, limits _ _ _ (both _ _ (q₆ .0) .0) .1)
-rows-shown s n (p ∷ ps) e (suc i) = rows-shown (p .submarket) (p .number) ps (then-zero _ _ e .1) i
 
 same-either : (n x : ℕ) → outcome n x (λ _. x) ≡ x
 unfolding outcome

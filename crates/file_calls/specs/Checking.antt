@@ -4,6 +4,7 @@ use mathlib.Core.Bool.{Bool, true, false}
 use mathlib.Core.List.{List, [], _∷_, flatten}
 use Prim.Native.Nat.{ℕ, _+_, _*_, _≤_, _<_}
 use lib.ListN.{length}
+use Rattle.lines.specs.Fields.{longest}
 use Rattle.statement.specs.Writing.{Fills}
 use Rattle.month.specs.declared.Month.{Month}
 use Rattle.file_lines.specs.declared.MonthFile.{MonthFile}
@@ -35,7 +36,7 @@ pub record FeedLists : Type 0 where
 
 -- they are long enough for every month
 pub record FeedRoom (l : FeedLists) : Type 0 where
-  pub bytes : 8192 ≤ length (l .line)
+  pub bytes : longest ≤ length (l .line)
   pub lent : Lent (l .held)
 
 -- 30: are the lists long enough? 31: do state and lists fit together, as after every feed?
@@ -59,7 +60,7 @@ pub record FinishLists : Type 0 where
   pub text : List ℕ
 
 pub record FinishRoom (l : FinishLists) : Type 0 where
-  pub bytes : 8192 ≤ length (l .line)
+  pub bytes : longest ≤ length (l .line)
   pub lent : Lent (l .held)
 
 -- 30, then 22: are 65,664 bytes lent for the text? then 31

@@ -8,6 +8,7 @@ use lib.IntN.{ℤ}
 use lib.ListN.{length, take}
 use Rattle.records.specs.Records.{rowsOf}
 use Rattle.ledger.specs.Ledger.{Ledger, inBounds}
+use Rattle.lines.specs.Fields.{longest}
 use Rattle.month.specs.declared.Month.{Month}
 use Rattle.questions.specs.Questions.{rowsNumber}
 use Rattle.file_lines.specs.declared.MonthFile.{MonthFile}
@@ -72,7 +73,7 @@ pub record Settling (f : MonthFile) (k : Kept) : Type 0 where
 
 pub record Valid (f : MonthFile) (k : Kept) : Type 0 where
   pub lent : Lent k
-  pub short : f .length ≤ 8192
+  pub short : f .length ≤ longest
   pub begun : f .stage ≡ 0 → f .count ≡ 0
   pub gathering : f .stage ≡ 1 → Gathering f
   pub settling : f .stage ≡ 2 → Settling f k

@@ -5,6 +5,7 @@ use mathlib.Core.Bool.{cond}
 use mathlib.Core.List.{List, [], _∷_, _++_, flatten}
 use lib.Dec.{eqb, ltb}
 use lib.ListN.{length}
+use Rattle.lines.specs.Fields.{longest}
 use Rattle.file_lines.specs.File.{whole, unfinished, Progress, begins, refuses, next, following, settledFile}
 use Rattle.file_lines.specs.State.{isRefused}
 
@@ -21,7 +22,7 @@ ended r = let k = r .count + 1 in record { line = []; count = k; progress = next
 -- any other byte goes to the line; 26 as soon as the line is too long
 unfoldable pub longer : Reading → ℕ → Reading
 longer r b =
-    cond (ltb (length (r .line)) 8192)
+    cond (ltb (length (r .line)) longest)
     (record { line = r .line ++ (b ∷ []); count = r .count; progress = r .progress })
     (let k = r .count + 1 in record { line = []; count = k; progress = refuses k 26 })
 

@@ -5,6 +5,7 @@ use mathlib.Core.Bool.{Bool, true, false}
 use mathlib.Core.List.{List}
 use lib.ListN.{length, take, drop, getD}
 use Rattle.lists.specs.Questions.{outcome}
+use Rattle.lines.specs.Fields.{longest}
 use Rattle.lines.specs.Reading.{readNumber}
 use Rattle.file_lines.specs.declared.MonthFile.{MonthFile}
 use Rattle.file_lines.specs.File.{Progress, printed}
@@ -19,8 +20,8 @@ readingOf f k line = record { line = take (f .length) line; count = f .count; pr
 pub record Collected (part : List ℕ) (from : ℕ) (old : List ℕ) (at : ℕ) (to : ℕ) (new : List ℕ) : Type 0 where
   pub low : from ≤ to
   pub high : to ≤ length part
-  pub short : at + (to - from) ≤ 8192
-  pub full : to < length part → (getD part to 0 ≡ 10 → ⊥) → at + (to - from) ≡ 8192
+  pub short : at + (to - from) ≤ longest
+  pub full : to < length part → (getD part to 0 ≡ 10 → ⊥) → at + (to - from) ≡ longest
   pub same : (count : ℕ) (p : Progress) → isRefused p ≡ false
       → fed (record { line = take at old; count = count; progress = p }) (drop from part)
       ≡ fed (record { line = take (at + (to - from)) new; count = count; progress = p }) (drop to part)

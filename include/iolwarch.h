@@ -88,7 +88,7 @@ extern "C" {
  *   27  it starts with "MRE,1," or "P," or "H," or "G,"
  *   28  it has 3, 5, 2, or 2 to 513 fields after that start; for a field call: it has such a field
  *   29  every field is 1 to 19 digits, with no leading zero but "0" itself
- *   30  the figure list is long enough; for a file's feed and finish: every list is
+ *   30  the figure list is long enough; for a file's feed and finish: every list but the text is
  *   31  the line is in turn, has its end byte 10, and the file neither ends early nor goes on after the last G line; for
  *       feed and finish: state and lists fit together, as they do after every feed
  */

@@ -1,7 +1,7 @@
 """Holds the must-fail edits to the logs that `rt ci` left in target/must-fail: each wrong answer is refused at its own place, and
 there at a fact. The last line is 'N passed, M failed'.
 
-An edit has one or more wrong answers, each in another function, so that the crate is proved again once for all of them:
+An edit has one or more wrong answers, each in another function, definition or contract and refused at another place, so that the crate is proved again once for all of them:
 
     # NAME: the fact that no longer holds
     # refused at PLACE
@@ -23,7 +23,7 @@ FACT = re.compile(
 )
 # Two types that differ are both facts, or nothing is shown: where one is that of a value, or a need by its name, the proof file no longer
 # fits the code.
-NO_FACT = re.compile(r"(expected|has) type `\(*([^` ]*\.)?(ℕ|ℤ|Bool|List|Type)[ `]|(?<![\w-])Need-")
+NO_FACT = re.compile(r"(expected|has) type `\(*([^` ]*\.)?(ℕ|ℤ|Bool|List|Option|RefT|Array|Type|Month|Opened|Settled|Balanced|Ended|Stated|Sized)[ `]|(?<![\w-])Need-")
 NO_NAME = re.compile(r"that can be named from here|has no field|is not in scope:|no module is found")
 AFTER = re.compile(r"was not admitted \(")
 
@@ -79,9 +79,10 @@ def main():
         if not answers:
             print(f"{crate}/{label}: names no wrong answer")
             failed += 1
+        places = [place for _, _, place in answers]
         for name, _, place in answers:
-            if place is None:
-                why = "names no place"
+            if place is None or places.count(place) > 1:
+                why = "names no place of its own"
             elif not log.is_file():
                 why = "no log"
             else:

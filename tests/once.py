@@ -6,7 +6,8 @@ line takes is used where its file names it. Twice is a run of six lines that sta
 records are alike from end to end, so one tool writes them: each of them has to be what tools/outer.py writes. The last line is
 'N passed, M failed'.
 
-Names are looked up as words: a lemma that has the name of a local variable of its file passes."""
+Names are looked up as words: a lemma that has the name of a local variable of its file passes, and so does a function that has the name of a
+method which any crate calls. Fields, constructors, structs and constants are not held, nor copies with other names in them."""
 import collections
 import functools
 import itertools
@@ -28,12 +29,8 @@ BARE = re.compile(
     r"(ghost |pub )?use |(pub )?mod |(&mut |&)?\w+(\.\w+)*(\[[^]]*\])?,$|[\w-]+\)*$|(?P<field>\w+) = \w+ \.(?P=field);$"
     r"|tie\.close|\(tie\.spec|\(λ c( κs)?\. (refl|tt|search [\w-]+|c( \.[\w-]+)+)\)+$"
 )
-# The calls of document 01 that nothing in this repository calls: they are for callers in Rattle, and C has its own form of each.
+# What document 01 names and nothing in this repository calls: it is for callers in Rattle.
 PUBLIC = {
-    ("month", "open"): "over plant records; C and the file call the forms over columns",
-    ("month", "settle"): "likewise",
-    ("month", "statement"): "likewise",
-    ("month", "statement_size"): "likewise",
     ("lines", "field"): "hands back a part of the line, which cannot cross to C",
     ("transfer", "column_sum"): "document 01 has the table 'summed by rows and columns'; the rules sum rows alone",
 }
@@ -83,6 +80,7 @@ class Source:
         self.names, self.modules = {}, {}
         self.words, self.line, self.fields, self.shows = collections.defaultdict(set), {}, {}, {}
         self.last = None
+        self.code_words, self.taken = set(), set()
         if path.suffix == ".rt":
             self.code(re.sub("//.*", "", path.read_text()))
         else:
@@ -94,9 +92,11 @@ class Source:
             if line.startswith("ghost use "):
                 self.use(line[6:].rstrip(";"))
             elif taken := re.match(r"use (?:\w+::)*(\w+);", line):
-                self.names[taken[1]] = (None, taken[1])
+                self.taken.add(taken[1])
+            elif contract := re.match(r" *(?:requires|ensures) (.*)", line):
+                self.words[""].update(WORD.findall(contract[1]))
             else:
-                self.words[""].update(WORD.findall(line), re.findall(r"\w+", line))
+                self.code_words.update(re.findall(r"\w+", line))
 
     def text(self, text):
         around, heading = [], False
@@ -215,6 +215,8 @@ def imports():
         words = set().union(*source.words.values())
         for name in [*source.names, *source.modules]:
             yield stands(name, words), f"{path.relative_to(ROOT)}: a `use` line takes {name}, which nothing there names"
+        for name in sorted(source.taken):
+            yield name in source.code_words, f"{path.relative_to(ROOT)}: a `use` line takes {name}, which nothing there names"
 
 
 # ---- functions
@@ -238,8 +240,10 @@ def functions():
     seen = reached(roots, lambda one: (other for other in calls[one] if other in calls))
     for one, where in at.items():
         yield one in seen, f"{where}: nothing that is used calls {one[1]}"
+    others = reached(roots - set(PUBLIC), lambda one: (other for other in calls[one] if other in calls))
     for one in PUBLIC:
         yield one in calls, f"no function {one[1]} in {one[0]}, which this script lists as a public call"
+        yield one not in others, f"{one[1]} of {one[0]} is called, so this script need not list it"
 
 
 def called(body, crate, used):

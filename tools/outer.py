@@ -8,7 +8,8 @@ Two shapes stand, and the tool knows them as one: lets, each the length of a lis
     let n = plants.len(); let c = columns(plants); self.open_table(n, c, ..)                        the methods of Month
     let meant = month_of(month); let opened = meant.open(plants, ..); opened_kept(month, opened)    the exported calls
 
-A call is handed parameters and earlier lets. Of a parameter it gets a copy, but a `&mut` is given up, once; so is a let.
+A call is handed parameters and earlier lets. Of a parameter it gets a copy, but a `&mut` is given up, once; so is what a call answered. Numbers are u64 or
+usize, arrays of u64, and a struct that is a parameter is Copy.
 
 The config: crate, fn (its path), structs (with the crate of each), params (with their types, as in Rattle), body, uses (`use` lines), fact and
 carry. An entry of body has let (name and type) and len, a list's name, or call, a crate and a path, args and fact. A call's fact is the callee's

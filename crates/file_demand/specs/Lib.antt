@@ -1,2 +1,2 @@
--- A settled file, from its bytes to the sums of demand 3.
+-- A whole file, from its bytes to the sums of demand 3.
 pub mod Sums

@@ -3,6 +3,6 @@ use mathlib.Core.Path.{_≡_}
 use Rattle.file_lines.specs.declared.MonthFile.{MonthFile}
 use Rattle.kept_file.specs.Files.{fileOf, keptFileOf}
 
--- the state that begin or a feed hands back stands for the one that the call inside hands back, so the next call goes on from it
+-- a state that is kept for C stands for itself: begin's stands for `atStart`, and the next call goes on from it; of feed `FileFed` says so
 pub record Files : Type 0 where
   pub back : (f : MonthFile) → fileOf (keptFileOf f) ≡ f

@@ -1,6 +1,6 @@
 // The ledger (document 01, 'Plants, profile, ledger'): bounds, posting, columns and their sums.
 ghost use mathlib.Core.Path.{_≡_};
-ghost use Prim.Native.Nat.{_+_, _-_, _*_, _^_, _≤_, _<_};
+ghost use Prim.Native.Nat.{_-_, _*_, _^_, _≤_, _<_};
 ghost use lib.IntN.{pos};
 ghost use lib.ListN.{length, replicate};
 ghost use Rattle.lists.specs.Lists.{Within, atMost, every, sum, sumℤ};

@@ -1,6 +1,6 @@
 // Fields of a line, parted by commas: where the next comma stands, and a field handed back as a part of the line.
 ghost use mathlib.Core.Path.{_≡_};
-ghost use Prim.Native.Nat.{_+_, _≤_};
+ghost use Prim.Native.Nat.{_≤_};
 ghost use lib.ListN.{length, drop};
 ghost use Rattle.lines.specs.Fields.{nextComma, fieldNumber, fieldBytes, fieldStart, Part};
 ghost use Rattle.lines.specs.Inner.{firstField, Starts};

@@ -1,6 +1,6 @@
 // Steps 1 and 2 of an hour (document 01, 'One hour'): the guarantee Q shared over the profile, then losses and availability.
 ghost use mathlib.Core.Path.{_≡_};
-ghost use Prim.Native.Nat.{_+_, _-_, _*_, _/_, _^_, _≤_, _<_};
+ghost use Prim.Native.Nat.{_^_, _≤_, _<_};
 ghost use lib.ListN.{length};
 ghost use Rattle.lists.specs.Lists.{sum, table, Within};
 ghost use Rattle.modulation.specs.Guarantee.{reducedBy, guaranteeIn};

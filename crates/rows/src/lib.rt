@@ -1,6 +1,6 @@
 // Steps 3, 4, 7 and 8 of an hour (document 01, 'One hour') for each plant: covered guarantees, rights, surpluses, deficits, and nets. All lists have a figure for each plant.
 ghost use mathlib.Core.Path.{_≡_};
-ghost use Prim.Native.Nat.{_+_, _-_, _*_, _^_, _≤_, _<_};
+ghost use Prim.Native.Nat.{_-_, _*_, _^_, _≤_, _<_};
 ghost use lib.IntN.{subℕ};
 ghost use lib.ListN.{length};
 ghost use Rattle.lists.specs.Lists.{sum, most, Within};

@@ -1,7 +1,7 @@
 // Arithmetic on signed figures, each function with its result in ℤ.
 // Bounds are stated on absolute values, which are natural numbers.
 ghost use mathlib.Core.Path.{_≡_};
-ghost use Prim.Native.Nat.{_+_, _*_, _<_, _^_};
+ghost use Prim.Native.Nat.{_+_, _<_, _^_};
 ghost use lib.IntN.{pos, natAbs, subℕ, _+ℤ_, _*ℤ_};
 ghost use lib.ListN.{length, getD, set};
 ghost use Rattle.signed.specs.Figures.{isWithin};

@@ -7,20 +7,17 @@ use native.Mathlib.Omega.{arith}
 use borrow.Author.Tests.{eqb-true, eqb-false}
 use lib.Dec.{eqb}
 use lib.ListN.{length}
-use Rattle.records.specs.Records.{rowsOf}
-use Rattle.ledger.specs.Ledger.{inBounds}
-use Rattle.questions.specs.Questions.{rowsNumber}
 use Rattle.statement.specs.Writing.{Fills}
 use Rattle.file_lines.specs.declared.MonthFile.{MonthFile}
 use Rattle.file_calls.specs.declared.FeedAnswer.{FeedAnswer}
 use Rattle.file_calls.specs.declared.FinishAnswer.{FinishAnswer}
 use Rattle.file_lines.specs.File.{settledFile}
 use Rattle.month_file.specs.Bytes.{finished}
-use Rattle.file_lines.specs.State.{Kept, ledgerOf, Lent, Settling, Valid}
+use Rattle.file_lines.specs.State.{Kept, Lent, Valid}
 use Rattle.month_file.specs.Machine.{readingOf, Fresh, Fed}
 use Rattle.month_file.specs.Run.{Place, Feeds}
 use Rattle.month_file.specs.Run as run
-use Rattle.file_calls.specs.Checking.{Decides, Counted, FeedLists, FeedRoom, FeedNumber, FedAny, FinishLists, FinishRoom, FinishNumber, FinishedAny, AnyPlace, AnyFeeds, AllTaken, AnyPromised}
+use Rattle.file_calls.specs.Checking.{Decides, FeedLists, FeedRoom, FeedNumber, FedAny, FinishLists, FinishRoom, FinishNumber, FinishedAny, AnyPlace, AnyFeeds, AllTaken, AnyPromised}
 use Rattle.file_calls.specs.Checking as def
 use Rattle.month_file.proofs.Run.{promised}
 
@@ -50,15 +47,6 @@ denied false d e h = d .no refl h
 pub granted : {holds : Type 0} (b : Bool) → Decides holds b → not b ≡ false → holds
 granted true d e = d .yes refl
 granted false d e = absurd (false≢true (sym e))
-
--- ---- a state
-
-pub settling-counted : {f : MonthFile} {k : Kept} → Settling f k → Counted (f .month) (f .count)
-settling-counted s = record { plants = s .plants; periods = s .periods; due = s .due; counted = s .counted }
-
-pub settling-yes : {f : MonthFile} {k : Kept} → Counted (f .month) (f .count) → rowsNumber 0 0 (rowsOf (f .month .plants) (k .columns)) ≡ 0
-    → inBounds (ledgerOf (f .month .plants) k) ≡ true → Settling f k
-settling-yes c r b = record { plants = c .plants; periods = c .periods; due = c .due; counted = c .counted; rows = r; bounded = b }
 
 -- ---- what is answered
 

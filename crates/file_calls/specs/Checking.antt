@@ -6,7 +6,6 @@ use Prim.Native.Nat.{ℕ, _+_, _*_, _≤_, _<_}
 use lib.ListN.{length}
 use Rattle.lines.specs.Fields.{longest}
 use Rattle.statement.specs.Writing.{Fills}
-use Rattle.month.specs.declared.Month.{Month}
 use Rattle.file_lines.specs.declared.MonthFile.{MonthFile}
 use Rattle.file_calls.specs.declared.FeedAnswer.{FeedAnswer}
 use Rattle.file_calls.specs.declared.FinishAnswer.{FinishAnswer}
@@ -19,13 +18,6 @@ use Rattle.month_file.specs.Machine.{readingOf, Fresh, Fed}
 pub record Decides (holds : Type 0) (answer : Bool) : Type 0 where
   pub yes : answer ≡ true → holds
   pub no : answer ≡ false → holds → ⊥
-
--- among G lines, of the month alone: its sizes in limits, and each line so far was the first, a P, an H or a G line
-pub record Counted (m : Month) (count : ℕ) : Type 0 where
-  pub plants : m .plants ≤ 512
-  pub periods : m .periods ≤ 744
-  pub due : m .due ≤ m .periods + 1
-  pub counted : count ≡ m .plants + m .periods + m .due
 
 -- ---- feed
 

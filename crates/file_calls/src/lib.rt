@@ -4,8 +4,8 @@ use month::Month;
 use month_file::feeding::feed;
 use month_file::finishing::finish;
 use questions::rows_number;
-ghost use Rattle.file_lines.specs.State.{kept, Lent, Gathering, Settling, Valid};
-ghost use Rattle.file_calls.specs.Checking.{Decides, Counted, FeedNumber, FedAny, FinishNumber, FinishedAny};
+ghost use Rattle.file_lines.specs.State.{kept, Lent, Gathering, Counted, Settling, Valid};
+ghost use Rattle.file_calls.specs.Checking.{Decides, FeedNumber, FedAny, FinishNumber, FinishedAny};
 
 // Are the lists of what was read long enough for every month?
 fn are_lent(columns: &[u64], profile: &[u64], allotted: &[u64], accounts: &[i64]) -> bool

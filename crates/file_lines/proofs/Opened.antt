@@ -161,10 +161,7 @@ module _ (f : MonthFile) (k : Kept) (o : Openable f k) (end : Opened) (ys : List
           stands = stands ∙ sym opens;
           valid = valid-settling _ after (lent-after k (o .lent) (f .plants) (o .plants) ys zs many more) (omega arith) refl
               (record {
-                plants = o .plants;
-                periods = o .periods;
-                due = omega arith;
-                counted = omega (arith, o .counted);
+                counted = record { plants = o .plants; periods = o .periods; due = omega arith; lines = omega (arith, o .counted) };
                 rows = asked.opened blank rows profile (f .tariff) _ none .1 .rows;
                 bounded = ap inBounds ledger-is ∙ zeros-in-bounds (f .plants);
               });

@@ -87,7 +87,7 @@ module _ (f : MonthFile) (k : Kept) (stage : f .stage ≡ 2) (v : Valid f k) (me
   g = v .settling stage
 
   lents : Lent after
-  lents = lent-after k (v .lent) (m .plants) (g .plants) ys zs many more
+  lents = lent-after k (v .lent) (m .plants) (g .counted .plants) ys zs many more
 
   alike : settleNumber m rows profile metered lent ledger ≡ settleNumber m rows profile metered zeros ledger
   alike =
@@ -114,7 +114,7 @@ module _ (f : MonthFile) (k : Kept) (stage : f .stage ≡ 2) (v : Valid f k) (me
     month-is = ap (λ (r : SettleEnd). r .answer .month) e ∙ settle-month m rows profile metered lent ledger none
 
     ledger-is : ledgerOf (m .plants) after ≡ record { allotted = ys; accounts = zs }
-    ledger-is = ledger-after k (v .lent) (m .plants) (g .plants) ys zs many more
+    ledger-is = ledger-after k (v .lent) (m .plants) (g .counted .plants) ys zs many more
 
     settles-on : settledOf f k metered ≡ settles rows profile (end .month) (record { allotted = ys; accounts = zs })
     unfolding settledOf settled outcome
@@ -134,10 +134,12 @@ module _ (f : MonthFile) (k : Kept) (stage : f .stage ≡ 2) (v : Valid f k) (me
           stands = stands ∙ ap (λ (n : Month). settles rows profile n (record { allotted = ys; accounts = zs })) (sym month-is) ∙ sym settles-on;
           valid = valid-settling _ after lents (omega arith) refl
               (record {
-                plants = g .plants;
-                periods = g .periods;
-                due = omega (arith, settle-due m rows profile metered lent ledger none);
-                counted = omega (arith, g .counted);
+                counted = record {
+                  plants = g .counted .plants;
+                  periods = g .counted .periods;
+                  due = omega (arith, settle-due m rows profile metered lent ledger none);
+                  lines = omega (arith, g .counted .lines);
+                };
                 rows = g .rows;
                 bounded = ap inBounds ledger-is ∙ ap (λ (r : SettleEnd). inBounds (r .ledger)) e ∙ settle-bounded m rows profile metered lent ledger none;
               });

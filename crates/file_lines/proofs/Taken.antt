@@ -64,7 +64,7 @@ module _ (f : MonthFile) (k : Kept) (v : Valid f k) (due : f .stage ≤ 2) where
   few-lines =
       by-stage (f .stage) due (λ e. omega (arith, v .begun e))
       (λ e. let g = v .gathering e in omega (arith, g .plants, g .periods, g .rows, g .figures, g .counted))
-      (λ e. let g = v .settling e in omega (arith, g .plants, g .periods, g .due, g .counted))
+      (λ e. let g = v .settling e .counted in omega (arith, g .plants, g .periods, g .due, g .lines))
 
   pub unrefused : isRefused (progressOf f k) ≡ false
   unfolding isRefused progressOf

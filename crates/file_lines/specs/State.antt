@@ -62,12 +62,16 @@ pub record Gathering (f : MonthFile) : Type 0 where
   pub figures : f .figures < f .periods
   pub counted : f .count ≡ 1 + f .rows + f .figures
 
--- among G lines: the table has passed 5 to 8, the ledger is in its bounds, and each line so far was the first, a P, an H or a G line
+-- among G lines, of the month alone: its sizes in limits, and each line so far was the first, a P, an H or a G line
+pub record Counted (m : Month) (count : ℕ) : Type 0 where
+  pub plants : m .plants ≤ 512
+  pub periods : m .periods ≤ 744
+  pub due : m .due ≤ m .periods + 1
+  pub lines : count ≡ m .plants + m .periods + m .due
+
+-- ... the table has passed 5 to 8, and the ledger is in its bounds
 pub record Settling (f : MonthFile) (k : Kept) : Type 0 where
-  pub plants : f .month .plants ≤ 512
-  pub periods : f .month .periods ≤ 744
-  pub due : f .month .due ≤ f .month .periods + 1
-  pub counted : f .count ≡ f .month .plants + f .month .periods + f .month .due
+  pub counted : Counted (f .month) (f .count)
   pub rows : rowsNumber 0 0 (rowsOf (f .month .plants) (k .columns)) ≡ 0
   pub bounded : inBounds (ledgerOf (f .month .plants) k) ≡ true
 

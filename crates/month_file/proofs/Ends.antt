@@ -121,7 +121,7 @@ module _ (f : MonthFile) (k : Kept) (v : Valid f k) (line : List ℕ) where
 
       pub ended-settled : f .stage ≡ 2 → f .month .periods < f .month .due → AtEnd f k line f
       ended-settled h d =
-          record { prints = no-line; finishable = λ _. record { valid = v; settling = h; last = omega (arith, v .settling h .due) } }
+          record { prints = no-line; finishable = λ _. record { valid = v; settling = h; last = omega (arith, v .settling h .counted .due) } }
 
 -- ---- the statement after close
 
@@ -177,33 +177,33 @@ module _ (f : MonthFile) (k : Kept) (w : Finishable f k) (end : month.Ended) (e 
     p-rows = length-rows (m .plants) (k .columns)
 
     made : plantsOf ss ns (columnOf 2 (m .plants) (k .columns)) (columnOf 3 (m .plants) (k .columns)) (columnOf 4 (m .plants) (k .columns)) ≡ rows
-    made = columns-rows (m .plants) (k .columns) (w .valid .lent .columns) (g .plants)
+    made = columns-rows (m .plants) (k .columns) (w .valid .lent .columns) (g .counted .plants)
 
     in-limits : InLimits settled rows ledger
     unfolding ledgerOf
     in-limits =
         record {
-          few = omega (arith, p-rows, g .plants);
-          periods = omega (arith, month-due, w .last, g .periods);
+          few = omega (arith, p-rows, g .counted .plants);
+          periods = omega (arith, month-due, w .last, g .counted .periods);
           submarkets = record { at = λ i. rows-shown 0 0 rows (g .rows) i .0 };
           numbers = record { at = λ i. rows-shown 0 0 rows (g .rows) i .1 };
-          figures = length-take-le (4 * m .plants) (k .allotted) (omega (arith, g .plants, w .valid .lent .allotted)) ∙ ap (λ (n : ℕ). 4 * n) (sym p-rows);
-          nets = length-take-le (2 * m .plants) (k .accounts) (omega (arith, g .plants, w .valid .lent .accounts)) ∙ ap (λ (n : ℕ). 2 * n) (sym p-rows);
+          figures = length-take-le (4 * m .plants) (k .allotted) (omega (arith, g .counted .plants, w .valid .lent .allotted)) ∙ ap (λ (n : ℕ). 4 * n) (sym p-rows);
+          nets = length-take-le (2 * m .plants) (k .accounts) (omega (arith, g .counted .plants, w .valid .lent .accounts)) ∙ ap (λ (n : ℕ). 2 * n) (sym p-rows);
           bounded = g .bounded;
         }
 
     s-rows : length ss ≡ m .plants
-    s-rows = length-column (m .plants) (k .columns) (w .valid .lent .columns) (g .plants) 0 (omega arith)
+    s-rows = length-column (m .plants) (k .columns) (w .valid .lent .columns) (g .counted .plants) 0 (omega arith)
 
     n-rows : length ns ≡ m .plants
-    n-rows = length-column (m .plants) (k .columns) (w .valid .lent .columns) (g .plants) 1 (omega arith)
+    n-rows = length-column (m .plants) (k .columns) (w .valid .lent .columns) (g .counted .plants) 1 (omega arith)
 
     statable-columns : (text : List ℕ) → 128 * 512 + 128 ≤ length text
         → Stateable ss ns ledger × (statementLength settled (plantsOf ss ns [] [] []) ledger ≤ length text)
     unfolding roomFor
     statable-columns text h =
         let c = callable settled ss ns _ _ _ ledger (n-rows ∙ sym s-rows) (subst (λ (ps : List Plant). InLimits settled ps ledger) (sym made) in-limits) in
-        (c .0, omega (arith, c .1, s-rows, g .plants))
+        (c .0, omega (arith, c .1, s-rows, g .counted .plants))
 
     -- the two columns that are shown, as they are lent
     module _ (xs ys : List ℕ) (x : xs ≡ ss) (y : ys ≡ ns) where

@@ -64,7 +64,7 @@ valid-longer f k n v h =
       short = h;
       begun = v .begun;
       gathering = λ e. let g = v .gathering e in record { plants = g .plants; periods = g .periods; rows = g .rows; figures = g .figures; counted = g .counted };
-      settling = λ e. let g = v .settling e in record { plants = g .plants; periods = g .periods; due = g .due; counted = g .counted; rows = g .rows; bounded = g .bounded };
+      settling = λ e. let g = v .settling e in record { counted = g .counted; rows = g .rows; bounded = g .bounded };
     }
 
 pub refused-progress : (f : MonthFile) (k : Kept) → 2 < f .stage → progressOf f k ≡ file.refuses (f .count) (f .number)

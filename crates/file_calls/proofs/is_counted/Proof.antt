@@ -15,5 +15,5 @@ is-counted-spec =
     (λ c. no (λ p. omega (arith, p .due, c .if3 .taken)))  -- returns-3
     (λ c. search needs)  -- add-if4
     (λ c. search needs)  -- add-if4-2
-    (λ c. no (λ p. c .if4 .taken (p .counted)))  -- returns-4
-    (λ c. yes (record { plants = c .before .before .before .before .before .before .before .before .if1 .left; periods = c .before .before .before .before .before .before .if2 .left; due = c .before .before .before .if3 .left; counted = c .if4 .left })))  -- returns-5
+    (λ c. no (λ p. c .if4 .taken (p .lines)))  -- returns-4
+    (λ c. yes (record { plants = c .before .before .before .before .before .before .before .before .if1 .left; periods = c .before .before .before .before .before .before .if2 .left; due = c .before .before .before .if3 .left; lines = c .if4 .left })))  -- returns-5

@@ -1,7 +1,7 @@
 -- `finishing::write_month` meets its contract. Assumes nothing.
 use native.Mathlib.Omega.{arith}
 use borrow.Author.Needs.{needs}
-use Rattle.file_lines.specs.State.{Kept, kept, ledgerOf, Settling}
+use Rattle.file_lines.specs.State.{Kept, kept, ledgerOf, Counted}
 use Rattle.file_lines.proofs.Opened.{front-count}
 use Rattle.month_file.proofs.Ends.{closing-refused, some-due, statable, closing-stated}
 use Rattle.month_file.proofs.finishing.write_month.Statement.{statement}
@@ -12,8 +12,8 @@ lists s =
     let a = s .args in
     kept (a .columns .now) (a .profile .now) (a .allotted .now) (a .accounts .now)
 
-known : (s : tie.Start) → Settling (s .args .file) (lists s)
-known s = s .pre .0 .valid .settling (s .pre .0 .settling)
+known : (s : tie.Start) → Counted (s .args .file .month) (s .args .file .count)
+known s = s .pre .0 .valid .settling (s .pre .0 .settling) .counted
 
 pub write-month-spec : {M : Type 1} → statement M
 unfolding ledgerOf

@@ -202,6 +202,8 @@ fn unknown_states(file: File) -> Vec<File> {
             File { count: file.count + 1, ..file },
         ],
         2 => vec![
+            File { month: Month { stage: 0, ..month }, ..file },
+            File { month: Month { stage: 2, ..month }, ..file },
             File { month: Month { plants: 513, ..month }, ..file },
             File { month: Month { periods: 745, ..month }, ..file },
             File { month: Month { due: month.periods + 2, ..month }, ..file },

@@ -1,6 +1,7 @@
 // Feed and finish for any caller: what they need is decided at run time.
 use file_lines::MonthFile;
 use month::Month;
+use month::stages::is_open;
 use month_file::feeding::feed;
 use month_file::finishing::finish;
 use questions::rows_number;
@@ -48,11 +49,18 @@ fn is_gathering(file: MonthFile) -> bool
     true
 }
 
-// Among G lines: sizes in limits, and every line counted?
+// Among G lines: an open month, sizes in limits, and every line counted?
 fn is_counted(month: Month, count: u64) -> bool
     ensures { λ r. ⌜ Decides (Counted month count) r ⌝ }
 {
+    let stage = month.stage;
+    if !is_open(stage) {
+        return false;
+    }
     if 512 < month.plants {
+        return false;
+    }
+    if month.periods < 1 {
         return false;
     }
     if 744 < month.periods {

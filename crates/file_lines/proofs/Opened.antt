@@ -17,7 +17,7 @@ use Rattle.month.specs.declared.Month.{Month}
 use Rattle.month.specs.declared.Opened.{Opened}
 use Rattle.month.specs.declared.Stage.the-variants.{Open}
 use Rattle.questions.specs.Questions.{lengthsNumber, tablesNumber}
-use Rattle.month.specs.Questions.{openNumber}
+use Rattle.month.specs.Questions.{isOpen, openNumber}
 use Rattle.month.specs.Calls.{OpenEnd, openCall}
 use Rattle.month.proofs.Accepted.{open-number}
 use Rattle.month.proofs.Asked as asked
@@ -153,7 +153,7 @@ module _ (f : MonthFile) (k : Kept) (o : Openable f k) (end : Opened) (ys : List
     stands = ap (settles rows profile month) ledger-is
 
     opened-moved : Moved f (openedOf f k) (monthed (atStage f 2) month) after
-    unfolding atStage
+    unfolding atStage isOpen
     opened-moved =
         record {
           empty = refl;
@@ -161,7 +161,14 @@ module _ (f : MonthFile) (k : Kept) (o : Openable f k) (end : Opened) (ys : List
           stands = stands ∙ sym opens;
           valid = valid-settling _ after (lent-after k (o .lent) (f .plants) (o .plants) ys zs many more) (omega arith) refl
               (record {
-                counted = record { plants = o .plants; periods = o .periods; due = omega arith; lines = omega (arith, o .counted) };
+                counted = record {
+                  isOpened = refl;
+                  plants = o .plants;
+                  some = omega (arith, h-figures, asked.opened blank rows profile (f .tariff) _ none .0 .somePeriods);
+                  periods = o .periods;
+                  due = omega arith;
+                  lines = omega (arith, o .counted);
+                };
                 rows = asked.opened blank rows profile (f .tariff) _ none .1 .rows;
                 bounded = ap inBounds ledger-is ∙ zeros-in-bounds (f .plants);
               });

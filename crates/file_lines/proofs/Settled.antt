@@ -135,7 +135,9 @@ module _ (f : MonthFile) (k : Kept) (stage : f .stage ≡ 2) (v : Valid f k) (me
           valid = valid-settling _ after lents (omega arith) refl
               (record {
                 counted = record {
+                  isOpened = g .counted .isOpened;
                   plants = g .counted .plants;
+                  some = g .counted .some;
                   periods = g .counted .periods;
                   due = omega (arith, settle-due m rows profile metered lent ledger none);
                   lines = omega (arith, g .counted .lines);

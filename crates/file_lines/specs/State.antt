@@ -11,6 +11,7 @@ use Rattle.ledger.specs.Ledger.{Ledger, inBounds}
 use Rattle.lines.specs.Fields.{longest}
 use Rattle.month.specs.declared.Month.{Month}
 use Rattle.questions.specs.Questions.{rowsNumber}
+use Rattle.month.specs.Questions.{isOpen}
 use Rattle.file_lines.specs.declared.MonthFile.{MonthFile}
 use Rattle.file_lines.specs.File.{Progress, begins, gathers, settles, refuses, blank, opened, settled}
 
@@ -62,9 +63,11 @@ pub record Gathering (f : MonthFile) : Type 0 where
   pub figures : f .figures < f .periods
   pub counted : f .count ≡ 1 + f .rows + f .figures
 
--- among G lines, of the month alone: its sizes in limits, and each line so far was the first, a P, an H or a G line
+-- among G lines, of the month alone: it is open, its sizes are in limits, and each line so far was the first, a P, an H or a G line
 pub record Counted (m : Month) (count : ℕ) : Type 0 where
+  pub isOpened : isOpen (m .stage) ≡ true
   pub plants : m .plants ≤ 512
+  pub some : 1 ≤ m .periods
   pub periods : m .periods ≤ 744
   pub due : m .due ≤ m .periods + 1
   pub lines : count ≡ m .plants + m .periods + m .due

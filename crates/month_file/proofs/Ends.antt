@@ -8,7 +8,7 @@ use borrow.Author.Tests.{eq-eqb, ne-eqb}
 use lib.ListN.{length, take, length-append}
 use lib.Seq.{length-take-le}
 use Rattle.lists.specs.Questions.{outcome}
-use Rattle.lists.proofs.Questions.{accepted, refuses, outcome-part}
+use Rattle.lists.proofs.Questions.{accepted, refuses, outcome-part, yes, all-yes, in-range}
 use Rattle.figures.specs.Figures.{figure, commasBefore, byCommas, figureLength}
 use Rattle.lines.specs.Reading.{readNumber, ReadEnd, readCall}
 use Rattle.lines.specs.declared.reading.Line.{Line}
@@ -24,6 +24,7 @@ use Rattle.month.specs.declared.Ended as month
 use Rattle.questions.proofs.Asked.{rows-shown}
 use Rattle.month.specs.Questions.{closeNumber}
 use Rattle.month.specs.Calls.{closeCall}
+use Rattle.month.proofs.Accepted.{close-number}
 use Rattle.statement.specs.Statement.{line, statementText, roomFor}
 use Rattle.statement.specs.Lengths.{statementLength}
 use Rattle.statement.specs.Laws.{InLimits}
@@ -152,73 +153,77 @@ module _ (f : MonthFile) (k : Kept) (w : Finishable f k) (end : month.Ended) (e 
   unfolding printed
   prints = ap (printed (f .count)) (settles-is f k (w .settling)) ∙ rw (eq-eqb (m .due) (m .periods + 1) (w .last), ← e)
 
-  pub closing-refused : {before : List ℕ} {r : ℕ} {after : List ℕ} → (end .number ≡ 0 → ⊥) → Fills (refusal (f .count) (end .number)) before r after
-      → Fills (printed (f .count) (progressOf f k)) before r after
-  closing-refused {before} {r} {after} z h =
-      subst (λ (t : List ℕ). Fills t before r after) (refuses (end .number) (end .number) _ _ (refusal (f .count)) refl z refl ∙ sym prints) h
+  -- the month is open, and its last period is settled: close is accepted
+  closes : 0 ≡ closeNumber m
+  unfolding closeNumber
+  closes =
+      yes _ _ _ _ (g .counted .isOpened)
+      (yes _ _ _ _ (in-range 1 744 (m .periods) (g .counted .some) (g .counted .periods)) (yes _ _ _ _ (eq-eqb (m .due) (m .periods + 1) (w .last)) all-yes))
 
-  module _ (z : end .number ≡ 0) where
-    month-due : end .month .due ≡ m .due
-    month-due = ap (λ (r : month.Ended). r .month .due) e ∙ close-due m
+  z : end .number ≡ 0
+  z = ap (λ (r : month.Ended). r .number) e ∙ (close-number m ∙ sym closes)
 
-    abbrev settled : ℕ
-    settled = end .month .due - 1
+  month-due : end .month .due ≡ m .due
+  month-due = ap (λ (r : month.Ended). r .month .due) e ∙ close-due m
 
-    pub some-due : 1 ≤ end .month .due
-    some-due = omega (arith, month-due, w .last)
+  abbrev settled : ℕ
+  settled = end .month .due - 1
 
-    abbrev ss : List ℕ
-    ss = columnOf 0 (m .plants) (k .columns)
+  pub some-due : 1 ≤ end .month .due
+  some-due = omega (arith, month-due, w .last)
 
-    abbrev ns : List ℕ
-    ns = columnOf 1 (m .plants) (k .columns)
+  abbrev ss : List ℕ
+  ss = columnOf 0 (m .plants) (k .columns)
 
-    p-rows : length rows ≡ m .plants
-    p-rows = length-rows (m .plants) (k .columns)
+  abbrev ns : List ℕ
+  ns = columnOf 1 (m .plants) (k .columns)
 
-    made : plantsOf ss ns (columnOf 2 (m .plants) (k .columns)) (columnOf 3 (m .plants) (k .columns)) (columnOf 4 (m .plants) (k .columns)) ≡ rows
-    made = columns-rows (m .plants) (k .columns) (w .valid .lent .columns) (g .counted .plants)
+  p-rows : length rows ≡ m .plants
+  p-rows = length-rows (m .plants) (k .columns)
 
-    in-limits : InLimits settled rows ledger
-    unfolding ledgerOf
-    in-limits =
-        record {
-          few = omega (arith, p-rows, g .counted .plants);
-          periods = omega (arith, month-due, w .last, g .counted .periods);
-          submarkets = record { at = λ i. rows-shown 0 0 rows (g .rows) i .0 };
-          numbers = record { at = λ i. rows-shown 0 0 rows (g .rows) i .1 };
-          figures = length-take-le (4 * m .plants) (k .allotted) (omega (arith, g .counted .plants, w .valid .lent .allotted)) ∙ ap (λ (n : ℕ). 4 * n) (sym p-rows);
-          nets = length-take-le (2 * m .plants) (k .accounts) (omega (arith, g .counted .plants, w .valid .lent .accounts)) ∙ ap (λ (n : ℕ). 2 * n) (sym p-rows);
-          bounded = g .bounded;
-        }
+  made : plantsOf ss ns (columnOf 2 (m .plants) (k .columns)) (columnOf 3 (m .plants) (k .columns)) (columnOf 4 (m .plants) (k .columns)) ≡ rows
+  made = columns-rows (m .plants) (k .columns) (w .valid .lent .columns) (g .counted .plants)
 
-    s-rows : length ss ≡ m .plants
-    s-rows = length-column (m .plants) (k .columns) (w .valid .lent .columns) (g .counted .plants) 0 (omega arith)
+  in-limits : InLimits settled rows ledger
+  unfolding ledgerOf
+  in-limits =
+      record {
+        few = omega (arith, p-rows, g .counted .plants);
+        periods = omega (arith, month-due, w .last, g .counted .periods);
+        submarkets = record { at = λ i. rows-shown 0 0 rows (g .rows) i .0 };
+        numbers = record { at = λ i. rows-shown 0 0 rows (g .rows) i .1 };
+        figures = length-take-le (4 * m .plants) (k .allotted) (omega (arith, g .counted .plants, w .valid .lent .allotted)) ∙ ap (λ (n : ℕ). 4 * n) (sym p-rows);
+        nets = length-take-le (2 * m .plants) (k .accounts) (omega (arith, g .counted .plants, w .valid .lent .accounts)) ∙ ap (λ (n : ℕ). 2 * n) (sym p-rows);
+        bounded = g .bounded;
+      }
 
-    n-rows : length ns ≡ m .plants
-    n-rows = length-column (m .plants) (k .columns) (w .valid .lent .columns) (g .counted .plants) 1 (omega arith)
+  s-rows : length ss ≡ m .plants
+  s-rows = length-column (m .plants) (k .columns) (w .valid .lent .columns) (g .counted .plants) 0 (omega arith)
 
-    statable-columns : (text : List ℕ) → 128 * 512 + 128 ≤ length text
-        → Stateable ss ns ledger × (statementLength settled (plantsOf ss ns [] [] []) ledger ≤ length text)
-    unfolding roomFor
-    statable-columns text h =
-        let c = callable settled ss ns _ _ _ ledger (n-rows ∙ sym s-rows) (subst (λ (ps : List Plant). InLimits settled ps ledger) (sym made) in-limits) in
-        (c .0, omega (arith, c .1, s-rows, g .counted .plants))
+  n-rows : length ns ≡ m .plants
+  n-rows = length-column (m .plants) (k .columns) (w .valid .lent .columns) (g .counted .plants) 1 (omega arith)
 
-    -- the two columns that are shown, as they are lent
-    module _ (xs ys : List ℕ) (x : xs ≡ ss) (y : ys ≡ ns) where
-      pub statable : (text : List ℕ) → 128 * 512 + 128 ≤ length text
-          → Stateable xs ys ledger × (statementLength settled (plantsOf xs ys [] [] []) ledger ≤ length text)
-      statable text h =
-          subst (λ (l : List ℕ). Stateable l ys ledger × (statementLength settled (plantsOf l ys [] [] []) ledger ≤ length text)) (sym x)
-          (subst (λ (l : List ℕ). Stateable ss l ledger × (statementLength settled (plantsOf ss l [] [] []) ledger ≤ length text)) (sym y) (statable-columns text h))
+  statable-columns : (text : List ℕ) → 128 * 512 + 128 ≤ length text
+      → Stateable ss ns ledger × (statementLength settled (plantsOf ss ns [] [] []) ledger ≤ length text)
+  unfolding roomFor
+  statable-columns text h =
+      let c = callable settled ss ns _ _ _ ledger (n-rows ∙ sym s-rows) (subst (λ (ps : List Plant). InLimits settled ps ledger) (sym made) in-limits) in
+      (c .0, omega (arith, c .1, s-rows, g .counted .plants))
 
-      pub closing-stated : {before : List ℕ} {r : ℕ} {after : List ℕ} → Fills (statementText settled (plantsOf xs ys [] [] []) ledger) before r after
-          → Fills (printed (f .count) (progressOf f k)) before r after
-      closing-stated {before} {r} {after} h =
-          subst (λ (t : List ℕ). Fills t before r after)
-          (ap₂ (λ (a b : List ℕ). statementText settled (plantsOf a b [] [] []) ledger) x y ∙ sym (text-columns settled ss ns _ _ _ ledger)
-          ∙ ap (λ (ps : List Plant). statementText settled ps ledger) made ∙ sym (accepted (end .number) _ (refusal (f .count)) z) ∙ sym prints) h
+  -- the two columns that are shown, as they are lent
+  module _ (xs ys : List ℕ) (x : xs ≡ ss) (y : ys ≡ ns) where
+    pub statable : (text : List ℕ) → 128 * 512 + 128 ≤ length text
+        → Stateable xs ys ledger × (statementLength settled (plantsOf xs ys [] [] []) ledger ≤ length text)
+    statable text h =
+        subst (λ (l : List ℕ). Stateable l ys ledger × (statementLength settled (plantsOf l ys [] [] []) ledger ≤ length text)) (sym x)
+        (subst (λ (l : List ℕ). Stateable ss l ledger × (statementLength settled (plantsOf ss l [] [] []) ledger ≤ length text)) (sym y) (statable-columns text h))
+
+    pub closing-stated : {before : List ℕ} {r : ℕ} {after : List ℕ} → Fills (statementText settled (plantsOf xs ys [] [] []) ledger) before r after
+        → Fills (printed (f .count) (progressOf f k)) before r after
+    closing-stated {before} {r} {after} h =
+        subst (λ (t : List ℕ). Fills t before r after)
+        (ap₂ (λ (a b : List ℕ). statementText settled (plantsOf a b [] [] []) ledger) x y ∙ sym (text-columns settled ss ns _ _ _ ledger)
+        ∙ ap (λ (ps : List Plant). statementText settled ps ledger) made ∙ sym (accepted (end .number) _ (refusal (f .count)) z) ∙ sym prints) h
 
 -- ---- what is printed
 

@@ -59,7 +59,7 @@ fn at_end(file: MonthFile, line: &[u8]) -> MonthFile
     file
 }
 
-// Every period is settled: the month is closed, and its statement written.
+// Every period is settled: the month is closed, which is not refused, and its statement written.
 fn write_month(
     file: MonthFile,
     columns: &[u64],
@@ -73,9 +73,6 @@ fn write_month(
 {
     let month = file.month;
     let end = month.close();
-    if end.number != 0 {
-        return write_refusal(file.count, end.number, text);
-    }
     let closed = end.month;
     let rows = month.plants as usize;
     let fours = 4 * rows;

@@ -3,7 +3,7 @@ use native.Mathlib.Omega.{arith}
 use borrow.Author.Needs.{needs}
 use Rattle.file_lines.specs.State.{Kept, kept, ledgerOf, Counted}
 use Rattle.file_lines.proofs.Opened.{front-count}
-use Rattle.month_file.proofs.Ends.{closing-refused, some-due, statable, closing-stated}
+use Rattle.month_file.proofs.Ends.{some-due, statable, closing-stated}
 use Rattle.month_file.proofs.finishing.write_month.Statement.{statement}
 use Rattle.month_file.proofs.finishing.write_month.Tie as tie
 
@@ -21,16 +21,13 @@ write-month-spec =
     tie.close
     (tie.spec
     (λ c κs. search needs)  -- close-requires
-    (λ c κs. search needs)  -- write-refusal-requires
+    (λ c. let s = c .before .before .before .before .before .before .before in let g = known s in omega (arith, g .plants))  -- mul-fours
+    (λ c. let s = c .before .before .before .before .before .before .before in let g = known s in omega (arith, g .plants))  -- mul-twos
+    (λ c κs. let s = c .before .before .before .before .before .before .before in (s .pre .0 .valid .lent .columns, omega arith, known s .plants))  -- column-requires
+    (λ c κs. let s = c .before .before .before .before .before .before .before .before in (s .pre .0 .valid .lent .columns, omega arith, known s .plants))  -- column-requires-2
+    (λ c. let s = c .before .before .before .before .before .before .before .before .before .before in some-due _ (lists s) (s .pre .0) _ (c .before .before .before .before .close .ensures))  -- sub-write-statement
+    (λ c. let s = c .before .before .before .before .before .before .before .before .before .before .before in front-count _ _ (omega (arith, known s .plants, s .pre .0 .valid .lent .allotted)))  -- slice-aggregate-write-statement
+    (λ c. let s = c .before .before .before .before .before .before .before .before .before .before .before .before in front-count _ _ (omega (arith, known s .plants, s .pre .0 .valid .lent .accounts)))  -- slice-aggregate-write-statement-2
+    (λ c κs. let s = c .before .before .before .before .before .before .before .before .before .before .before .before .before in statable _ (lists s) (s .pre .0) _ (c .before .before .before .before .before .before .before .close .ensures) _ _ (c .before .before .before .before .before .column .ensures .0) (c .before .before .before .before .column2 .ensures .0) (s .args .text .now) (s .pre .1))  -- write-statement-requires
     (λ c. search needs)  -- same-length
-    (λ c. let s = c .before .before .before .before .before .before .before .before .before .before .before .before in closing-refused _ (lists s) (s .pre .0) _ (c .before .before .before .before .before .before .close .ensures) (c .before .before .before .before .if1 .taken) (c .before .before .write-refusal .ensures))  -- returns
-    (λ c. let s = c .before .before .before .before .before .before .before .before .before in let g = known s in omega (arith, g .plants))  -- mul-fours
-    (λ c. let s = c .before .before .before .before .before .before .before .before .before in let g = known s in omega (arith, g .plants))  -- mul-twos
-    (λ c κs. let s = c .before .before .before .before .before .before .before .before .before in (s .pre .0 .valid .lent .columns, omega arith, known s .plants))  -- column-requires
-    (λ c κs. let s = c .before .before .before .before .before .before .before .before .before .before in (s .pre .0 .valid .lent .columns, omega arith, known s .plants))  -- column-requires-2
-    (λ c. let s = c .before .before .before .before .before .before .before .before .before .before .before .before in some-due _ (lists s) (s .pre .0) _ (c .before .before .before .before .before .before .close .ensures) (c .before .before .before .before .if1 .left))  -- sub-write-statement
-    (λ c. let s = c .before .before .before .before .before .before .before .before .before .before .before .before .before in front-count _ _ (omega (arith, known s .plants, s .pre .0 .valid .lent .allotted)))  -- slice-aggregate-write-statement
-    (λ c. let s = c .before .before .before .before .before .before .before .before .before .before .before .before .before .before in front-count _ _ (omega (arith, known s .plants, s .pre .0 .valid .lent .accounts)))  -- slice-aggregate-write-statement-2
-    (λ c κs. let s = c .before .before .before .before .before .before .before .before .before .before .before .before .before .before .before in statable _ (lists s) (s .pre .0) _ (c .before .before .before .before .before .before .before .before .before .close .ensures) (c .before .before .before .before .before .before .before .if1 .left) _ _ (c .before .before .before .before .before .column .ensures .0) (c .before .before .before .before .column2 .ensures .0) (s .args .text .now) (s .pre .1))  -- write-statement-requires
-    (λ c. search needs)  -- same-length-2
-    (λ c. let s = c .before .before .before .before .before .before .before .before .before .before .before .before .before .before .before .before .before .before in closing-stated _ (lists s) (s .pre .0) _ (c .before .before .before .before .before .before .before .before .before .before .before .before .close .ensures) (c .before .before .before .before .before .before .before .before .before .before .if1 .left) _ _ (c .before .before .before .before .before .before .before .before .column .ensures .0) (c .before .before .before .before .before .before .before .column2 .ensures .0) (c .before .before .write-statement .ensures)))  -- returns-2
+    (λ c. let s = c .before .before .before .before .before .before .before .before .before .before .before .before .before .before .before .before in closing-stated _ (lists s) (s .pre .0) _ (c .before .before .before .before .before .before .before .before .before .before .close .ensures) _ _ (c .before .before .before .before .before .before .before .before .column .ensures .0) (c .before .before .before .before .before .before .before .column2 .ensures .0) (c .before .before .write-statement .ensures)))  -- returns

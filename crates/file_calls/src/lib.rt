@@ -6,7 +6,7 @@ use month_file::feeding::feed;
 use month_file::finishing::finish;
 use questions::rows_number;
 ghost use Rattle.file_lines.specs.State.{kept, Lent, Gathering, Counted, Settling, Valid};
-ghost use Rattle.file_calls.specs.Checking.{Decides, FeedNumber, FedAny, FinishNumber, FinishedAny};
+ghost use Rattle.file_calls.specs.Checking.{Decides, fileLists, FileNumber, FedAny, FinishNumber, FinishedAny};
 
 // Are the lists of what was read long enough for every month?
 fn are_lent(columns: &[u64], profile: &[u64], allotted: &[u64], accounts: &[i64]) -> bool
@@ -126,8 +126,8 @@ fn is_valid(
     true
 }
 
-// 30 and 31 of a feed.
-fn feed_number(
+// 30 and 31 of both calls.
+fn file_number(
     file: MonthFile,
     line: &[u8],
     columns: &[u64],
@@ -135,7 +135,7 @@ fn feed_number(
     allotted: &[u64],
     accounts: &[i64],
 ) -> u64
-    ensures { λ r. ⌜ FeedNumber file (record { held = kept (now (columns .entry)) (now (profile .entry)) (now (allotted .entry)) (now (accounts .entry)); line = now (line .entry) }) r ⌝ }
+    ensures { λ r. ⌜ FileNumber file (fileLists (now (line .entry)) (now (columns .entry)) (now (profile .entry)) (now (allotted .entry)) (now (accounts .entry))) r ⌝ }
 {
     if line.len() < 8192 {
         return 30;
@@ -165,9 +165,9 @@ pub fn feed_any(
     allotted: &mut [u64],
     accounts: &mut [i64],
 ) -> FeedAnswer
-    ensures { λ r. ⌜ FedAny file (now (part .entry)) (record { held = kept (now (columns .entry)) (now (profile .entry)) (now (allotted .entry)) (now (accounts .entry)); line = now (line .entry) }) r (record { held = kept (now (columns .exit)) (now (profile .exit)) (now (allotted .exit)) (now (accounts .exit)); line = now (line .exit) }) ⌝ }
+    ensures { λ r. ⌜ FedAny file (now (part .entry)) (fileLists (now (line .entry)) (now (columns .entry)) (now (profile .entry)) (now (allotted .entry)) (now (accounts .entry))) r (fileLists (now (line .exit)) (now (columns .exit)) (now (profile .exit)) (now (allotted .exit)) (now (accounts .exit))) ⌝ }
 {
-    let no = feed_number(file, line, columns, profile, allotted, accounts);
+    let no = file_number(file, line, columns, profile, allotted, accounts);
     if no != 0 {
         return FeedAnswer { number: no, file };
     }
@@ -188,21 +188,16 @@ fn finish_number(
     accounts: &[i64],
     text: &[u8],
 ) -> u64
-    ensures { λ r. ⌜ FinishNumber file (record { held = kept (now (columns .entry)) (now (profile .entry)) (now (allotted .entry)) (now (accounts .entry)); line = now (line .entry); text = now (text .entry) }) r ⌝ }
+    ensures { λ r. ⌜ FinishNumber file (fileLists (now (line .entry)) (now (columns .entry)) (now (profile .entry)) (now (allotted .entry)) (now (accounts .entry))) (now (text .entry)) r ⌝ }
 {
-    if line.len() < 8192 {
-        return 30;
-    }
-    if !are_lent(columns, profile, allotted, accounts) {
-        return 30;
+    let no = file_number(file, line, columns, profile, allotted, accounts);
+    if no == 30 {
+        return no;
     }
     if text.len() < 128 * 512 + 128 {
         return 22;
     }
-    if !is_valid(file, columns, profile, allotted, accounts) {
-        return 31;
-    }
-    0
+    no
 }
 
 // What `finish_any` answers: the number, and how many bytes were written.
@@ -221,7 +216,7 @@ pub fn finish_any(
     accounts: &[i64],
     text: &mut [u8],
 ) -> FinishAnswer
-    ensures { λ r. ⌜ FinishedAny file (record { held = kept (now (columns .entry)) (now (profile .entry)) (now (allotted .entry)) (now (accounts .entry)); line = now (line .entry); text = now (text .entry) }) r (record { held = kept (now (columns .entry)) (now (profile .entry)) (now (allotted .entry)) (now (accounts .entry)); line = now (line .entry); text = now (text .exit) }) ⌝ }
+    ensures { λ r. ⌜ FinishedAny file (fileLists (now (line .entry)) (now (columns .entry)) (now (profile .entry)) (now (allotted .entry)) (now (accounts .entry))) (now (text .entry)) r (now (text .exit)) ⌝ }
 {
     let no = finish_number(file, line, columns, profile, allotted, accounts, text);
     if no != 0 {

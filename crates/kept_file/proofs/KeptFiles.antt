@@ -8,7 +8,7 @@ use Rattle.lists.proofs.Questions.{refuses, accepts}
 use Rattle.file_lines.specs.declared.MonthFile.{MonthFile}
 use Rattle.file_calls.specs.declared.FeedAnswer.{FeedAnswer}
 use Rattle.file_calls.specs.declared.FinishAnswer.{FinishAnswer}
-use Rattle.file_calls.specs.Checking.{FeedLists, FedAny, FinishLists, FinishedAny}
+use Rattle.file_calls.specs.Checking.{FileLists, FedAny, FinishedAny}
 use Rattle.kept_file.specs.declared.KeptFile.{KeptFile}
 use Rattle.kept_file.specs.Files.{fileOf, keptFileOf, fileBack, FileFed}
 use Rattle.kept_file.specs.Laws.{Files}
@@ -26,7 +26,7 @@ pub back-taken : (n : ℕ) (k : KeptFile) (f : MonthFile) {after : KeptFile} →
 unfolding fileBack
 back-taken n k f z e = accepts n n _ _ _ refl z e
 
-module _ (k : KeptFile) (part : List ℕ) (l after : FeedLists) {f : MonthFile} {x : FeedAnswer} (p : f ≡ fileOf k) (h : FedAny f part l x after) where
+module _ (k : KeptFile) (part : List ℕ) (l after : FileLists) {f : MonthFile} {x : FeedAnswer} (p : f ≡ fileOf k) (h : FedAny f part l x after) where
   meant : FedAny (fileOf k) part l x after
   meant = subst (λ (g : MonthFile). FedAny g part l x after) p h
 
@@ -50,6 +50,6 @@ module _ (k : KeptFile) (part : List ℕ) (l after : FeedLists) {f : MonthFile} 
             same = λ _. back;
           }
 
-pub finishes : (k : KeptFile) (l after : FinishLists) {f : MonthFile} {x : FinishAnswer} → f ≡ fileOf k → FinishedAny f l x after
-    → FinishedAny (fileOf k) l (record { number = x .number; length = x .length }) after
-finishes k l after {f} {x} p h = subst (λ (g : MonthFile). FinishedAny g l x after) p h
+pub finishes : (k : KeptFile) (l : FileLists) (text after : List ℕ) {f : MonthFile} {x : FinishAnswer} → f ≡ fileOf k → FinishedAny f l text x after
+    → FinishedAny (fileOf k) l text (record { number = x .number; length = x .length }) after
+finishes k l text after {f} {x} p h = subst (λ (g : MonthFile). FinishedAny g l text x after) p h

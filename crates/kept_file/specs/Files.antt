@@ -4,7 +4,7 @@ use mathlib.Core.List.{List}
 use Prim.Native.Nat.{ℕ}
 use Rattle.lists.specs.Questions.{outcome}
 use Rattle.file_lines.specs.declared.MonthFile.{MonthFile}
-use Rattle.file_calls.specs.Checking.{FeedLists, FedAny}
+use Rattle.file_calls.specs.Checking.{FileLists, FedAny}
 use Rattle.kept_file.specs.declared.KeptFile.{KeptFile}
 use Rattle.kept_file.specs.declared.KeptFed.{KeptFed}
 use Rattle.kept_month.specs.Months.{monthOf, keptOf}
@@ -45,6 +45,6 @@ unfoldable pub fileBack : ℕ → KeptFile → MonthFile → KeptFile
 fileBack number k f = outcome number (keptFileOf f) (λ _. k)
 
 -- feed: what `feed_any` answers on the state that is meant; refused, the caller's own state comes back, figure for figure
-pub record FileFed (k : KeptFile) (part : List ℕ) (l : FeedLists) (r : KeptFed) (after : FeedLists) : Type 0 where
+pub record FileFed (k : KeptFile) (part : List ℕ) (l : FileLists) (r : KeptFed) (after : FileLists) : Type 0 where
   pub fed : FedAny (fileOf k) part l (record { number = r .number; file = fileOf (r .file) }) after
   pub same : (r .number ≡ 0 → ⊥) → r .file ≡ k

@@ -4,8 +4,8 @@ use kept_month::KeptMonth;
 use kept_month::kept_of;
 use kept_month::month_of;
 ghost use mathlib.Core.Path.{_≡_};
-ghost use Rattle.file_lines.specs.State.{kept, atStart};
-ghost use Rattle.file_calls.specs.Checking.{FinishedAny};
+ghost use Rattle.file_lines.specs.State.{atStart};
+ghost use Rattle.file_calls.specs.Checking.{fileLists, FinishedAny};
 ghost use Rattle.kept_file.specs.Files.{fileOf, keptFileOf, fileBack, FileFed};
 
 // How far a month file has come, as the caller keeps it.
@@ -102,7 +102,7 @@ pub fn feed_kept(
     allotted: &mut [u64],
     accounts: &mut [i64],
 ) -> KeptFed
-    ensures { λ r. ⌜ FileFed file (now (part .entry)) (record { held = kept (now (columns .entry)) (now (profile .entry)) (now (allotted .entry)) (now (accounts .entry)); line = now (line .entry) }) r (record { held = kept (now (columns .exit)) (now (profile .exit)) (now (allotted .exit)) (now (accounts .exit)); line = now (line .exit) }) ⌝ }
+    ensures { λ r. ⌜ FileFed file (now (part .entry)) (fileLists (now (line .entry)) (now (columns .entry)) (now (profile .entry)) (now (allotted .entry)) (now (accounts .entry))) r (fileLists (now (line .exit)) (now (columns .exit)) (now (profile .exit)) (now (allotted .exit)) (now (accounts .exit))) ⌝ }
 {
     let meant = file_of(file);
     let fed = file_calls::feed_any(meant, part, line, columns, profile, allotted, accounts);
@@ -123,7 +123,7 @@ pub fn finish_kept(
     accounts: &[i64],
     text: &mut [u8],
 ) -> KeptFinished
-    ensures { λ r. ⌜ FinishedAny (fileOf file) (record { held = kept (now (columns .entry)) (now (profile .entry)) (now (allotted .entry)) (now (accounts .entry)); line = now (line .entry); text = now (text .entry) }) (record { number = r .number; length = r .length }) (record { held = kept (now (columns .entry)) (now (profile .entry)) (now (allotted .entry)) (now (accounts .entry)); line = now (line .entry); text = now (text .exit) }) ⌝ }
+    ensures { λ r. ⌜ FinishedAny (fileOf file) (fileLists (now (line .entry)) (now (columns .entry)) (now (profile .entry)) (now (allotted .entry)) (now (accounts .entry))) (now (text .entry)) (record { number = r .number; length = r .length }) (now (text .exit)) ⌝ }
 {
     let meant = file_of(file);
     let finished = file_calls::finish_any(meant, line, columns, profile, allotted, accounts, text);

@@ -3,8 +3,8 @@ use kept_file::KeptFed;
 use kept_file::KeptFile;
 use kept_file::KeptFinished;
 ghost use mathlib.Core.Path.{_≡_};
-ghost use Rattle.file_lines.specs.State.{kept, atStart};
-ghost use Rattle.file_calls.specs.Checking.{FinishedAny};
+ghost use Rattle.file_lines.specs.State.{atStart};
+ghost use Rattle.file_calls.specs.Checking.{fileLists, FinishedAny};
 ghost use Rattle.kept_file.specs.Files.{fileOf, keptFileOf, FileFed};
 
 // kept_file::begin_kept.
@@ -26,7 +26,7 @@ pub extern "C" fn iolwarch_file_feed(
     allotted: &mut [u64],
     accounts: &mut [i64],
 ) -> KeptFed
-    ensures { λ r. ⌜ FileFed file (now (part .entry)) (record { held = kept (now (columns .entry)) (now (profile .entry)) (now (allotted .entry)) (now (accounts .entry)); line = now (line .entry) }) r (record { held = kept (now (columns .exit)) (now (profile .exit)) (now (allotted .exit)) (now (accounts .exit)); line = now (line .exit) }) ⌝ }
+    ensures { λ r. ⌜ FileFed file (now (part .entry)) (fileLists (now (line .entry)) (now (columns .entry)) (now (profile .entry)) (now (allotted .entry)) (now (accounts .entry))) r (fileLists (now (line .exit)) (now (columns .exit)) (now (profile .exit)) (now (allotted .exit)) (now (accounts .exit))) ⌝ }
 {
     kept_file::feed_kept(file, part, line, columns, profile, allotted, accounts)
 }
@@ -42,7 +42,7 @@ pub extern "C" fn iolwarch_file_finish(
     accounts: &[i64],
     text: &mut [u8],
 ) -> KeptFinished
-    ensures { λ r. ⌜ FinishedAny (fileOf file) (record { held = kept (now (columns .entry)) (now (profile .entry)) (now (allotted .entry)) (now (accounts .entry)); line = now (line .entry); text = now (text .entry) }) (record { number = r .number; length = r .length }) (record { held = kept (now (columns .entry)) (now (profile .entry)) (now (allotted .entry)) (now (accounts .entry)); line = now (line .entry); text = now (text .exit) }) ⌝ }
+    ensures { λ r. ⌜ FinishedAny (fileOf file) (fileLists (now (line .entry)) (now (columns .entry)) (now (profile .entry)) (now (allotted .entry)) (now (accounts .entry))) (now (text .entry)) (record { number = r .number; length = r .length }) (now (text .exit)) ⌝ }
 {
     kept_file::finish_kept(file, line, columns, profile, allotted, accounts, text)
 }

@@ -8,17 +8,17 @@ pub feed-any-spec : {M : Type 1} → statement M
 feed-any-spec =
     tie.close
     (tie.spec
-    (λ c κs. search needs)  -- feed-number-requires
+    (λ c κs. search needs)  -- file-number-requires
     (λ c. search needs)  -- same-length
     (λ c. search needs)  -- same-length-2
     (λ c. search needs)  -- same-length-3
     (λ c. search needs)  -- same-length-4
     (λ c. search needs)  -- same-length-5
-    (λ c. feed-refused (c .before .feed-number .ensures) (c .if1 .taken))  -- returns
-    (λ c κs. let g = feed-good (c .before .before .before .before .before .before .feed-number .ensures) (c .before .before .before .before .before .if1 .left) in (g .0 .bytes, g .1))  -- feed-requires
+    (λ c. feed-refused (c .before .file-number .ensures) (c .if1 .taken))  -- returns
+    (λ c κs. feed-good (c .before .before .before .before .before .before .file-number .ensures) (c .before .before .before .before .before .if1 .left))  -- feed-requires
     (λ c. search needs)  -- same-length-6
     (λ c. search needs)  -- same-length-7
     (λ c. search needs)  -- same-length-8
     (λ c. search needs)  -- same-length-9
     (λ c. search needs)  -- same-length-10
-    (λ c. feed-taken _ _ _ _ _ (c .before .before .before .before .before .before .before .before .before .before .before .before .before .before .before .before .feed-number .ensures) (c .before .before .before .before .before .before .before .before .before .before .before .before .before .before .before .if1 .left) (c .before .before .before .before .before .before .before .before .before .feed .ensures)))  -- returns-2
+    (λ c. feed-taken _ _ _ _ _ (c .before .before .before .before .before .before .before .before .before .before .before .before .before .before .before .before .file-number .ensures) (c .before .before .before .before .before .before .before .before .before .before .before .before .before .before .before .if1 .left) (c .before .before .before .before .before .before .before .before .before .feed .ensures)))  -- returns-2

@@ -11,6 +11,6 @@ finish-any-spec =
     (λ c κs. search needs)  -- finish-number-requires
     (λ c. search needs)  -- same-length
     (λ c. finish-refused (c .before .finish-number .ensures) (c .if1 .taken))  -- returns
-    (λ c κs. let g = finish-good (c .before .before .finish-number .ensures) (c .before .if1 .left) in ((g .0 .bytes, g .1), g .2))  -- finish-requires
+    (λ c κs. finish-good (c .before .before .finish-number .ensures) (c .before .if1 .left))  -- finish-requires
     (λ c. search needs)  -- same-length-2
-    (λ c. finish-written _ _ _ _ (c .before .before .before .before .before .finish-number .ensures) (c .before .before .before .before .if1 .left) (c .before .before .finish .ensures)))  -- returns-2
+    (λ c. finish-written _ _ _ _ _ (c .before .before .before .before .before .finish-number .ensures) (c .before .before .before .before .if1 .left) (c .before .before .finish .ensures)))  -- returns-2

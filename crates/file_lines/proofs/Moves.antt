@@ -1,7 +1,7 @@
 -- What the state stands for once a line is read. Assumes nothing.
 use mathlib.Core.Path.{_≡_, refl, sym, ap, subst}
 use mathlib.Core.List.{[]}
-use Prim.Native.Nat.{ℕ, _+_, _≤_}
+use Prim.Native.Nat.{ℕ, zero, suc, _+_, _≤_}
 use native.Mathlib.Omega.{arith}
 use lib.ListN.{length}
 use Rattle.lists.specs.Questions.{outcome}
@@ -13,7 +13,7 @@ use Rattle.questions.proofs.Asked.{Sizes, sizes}
 use Rattle.file_lines.specs.declared.MonthFile.{MonthFile}
 use Rattle.file_lines.specs.File as file
 use Rattle.file_lines.specs.File.{Progress, gathers, begun, blank}
-use Rattle.file_lines.specs.State.{Kept, progressOf, Lent, Gathering, Settling, Valid, Moved, atStart, atStage, atRefusal}
+use Rattle.file_lines.specs.State.{Kept, progressOf, Lent, Gathering, Settling, Valid, Moved, atStart, atStage, numbered, monthed, atRefusal, atCall}
 
 -- ---- a state, by its stage
 
@@ -42,22 +42,7 @@ pub started : (m : Month) → m ≡ blank
     atStart
 started m e = ap (λ (b : Month). record { stage = 0; length = 0; count = 0; plants = 0; periods = 0; tariff = 0; rows = 0; figures = 0; month = b; number = 0 }) e
 
--- a state with another number, or with other sizes and no rows and figures yet
-abbrev pub numbered : MonthFile → ℕ → MonthFile
-numbered f n =
-    record {
-      stage = f .stage;
-      length = f .length;
-      count = f .count;
-      plants = f .plants;
-      periods = f .periods;
-      tariff = f .tariff;
-      rows = f .rows;
-      figures = f .figures;
-      month = f .month;
-      number = n;
-    }
-
+-- a state with other sizes and lines taken
 abbrev pub gathered : MonthFile → ℕ → ℕ → ℕ → ℕ → ℕ → MonthFile
 gathered f periods plants tariff rows figures =
     record {
@@ -74,13 +59,29 @@ gathered f periods plants tariff rows figures =
     }
 
 pub refused-is : (f g : MonthFile) (n : ℕ) → g ≡ atStage f 3 → numbered g n ≡ atRefusal f n
-unfolding atStage atRefusal
+unfolding atRefusal
 refused-is f g n e = ap (λ (h : MonthFile). numbered h n) e
+
+-- once a call has answered
+pub call-refused : (f : MonthFile) (n : ℕ) (m : Month) {r : MonthFile} → r ≡ atRefusal f n → (n ≡ 0 → ⊥) → r ≡ atCall f n m
+unfolding atCall
+call-refused f n m e h = refuses n n _ _ _ refl h e
+
+pub call-taken : (f : MonthFile) (n : ℕ) (m : Month) {g : MonthFile} → g ≡ atStage f 2 → n ≡ 0 → monthed g m ≡ atCall f n m
+unfolding atCall
+call-taken f n m e z = accepts n n _ _ _ refl z (ap (λ (g : MonthFile). monthed g m) e)
+
+-- what holds of a state with a refusal, and of one with the month that a call hands back, holds once the call has answered
+pub called : (f : MonthFile) (n : ℕ) (m : Month) (holds : MonthFile → Type 0) → ((n ≡ 0 → ⊥) → holds (atRefusal f n)) → (n ≡ 0 → holds (monthed (atStage f 2) m))
+    → {r : MonthFile} → r ≡ atCall f n m → holds r
+unfolding atCall outcome
+called f zero m holds refused taken e = subst holds (sym e) (taken refl)
+called f (suc n) m holds refused taken e = subst holds (sym e) (refused (λ z. omega (arith, z)))
 
 module _ (f : MonthFile) (k : Kept) (lent : Lent k) where
   -- a refusal
   pub refused-moved : (n : ℕ) → Moved f (file.refuses (f .count + 1) n) (atRefusal f n) k
-  unfolding atRefusal progressOf
+  unfolding atRefusal atStage progressOf
   refused-moved n =
       record {
         empty = refl;

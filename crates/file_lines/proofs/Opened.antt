@@ -24,8 +24,8 @@ use Rattle.month.proofs.Asked as asked
 use Rattle.file_lines.specs.declared.MonthFile.{MonthFile}
 use Rattle.file_lines.specs.File as file
 use Rattle.file_lines.specs.File.{settles, blank, opened}
-use Rattle.file_lines.specs.State.{Kept, kept, ledgerOf, progressOf, Lent, Moved, atStage, atRefusal, Openable, openedOf}
-use Rattle.file_lines.proofs.Moves.{valid-settling, moved-as, refuses-by}
+use Rattle.file_lines.specs.State.{Kept, kept, ledgerOf, progressOf, Lent, Moved, atStage, monthed, atRefusal, atCall, Openable, openedOf}
+use Rattle.file_lines.proofs.Moves.{valid-settling, moved-as, refuses-by, called}
 
 -- the front of a list that is lent has as many elements as were asked for
 pub front-count {ℓ} : {A : Type ℓ} (n : ℕ) (l : List A) → n ≤ length l → n ≡ length (take n l)
@@ -36,22 +36,6 @@ open-alike : (m : Month) (plants : List Plant) (profile : List ℕ) (t : ℕ) (l
     → openNumber m plants profile t l ≡ openNumber m plants profile t g
 unfolding openNumber tablesNumber lengthsNumber
 open-alike m plants profile t l g p q = rw (p, q)
-
--- a state with another month
-abbrev pub monthed : MonthFile → Month → MonthFile
-monthed f m =
-    record {
-      stage = f .stage;
-      length = f .length;
-      count = f .count;
-      plants = f .plants;
-      periods = f .periods;
-      tariff = f .tariff;
-      rows = f .rows;
-      figures = f .figures;
-      month = m;
-      number = f .number;
-    }
 
 -- the lists with other ledger figures at their front
 abbrev pub withLedger : Kept → ℕ → List ℕ → List ℤ → Kept
@@ -112,10 +96,10 @@ module _ (f : MonthFile) (k : Kept) (o : Openable f k) (end : Opened) (ys : List
   asks : end .number ≡ openNumber blank rows profile (f .tariff) (ledgerOf (f .plants) k)
   asks = ap (λ (r : OpenEnd). r .answer .number) e ∙ open-number _ _ _ _ _
 
-  pub opening-refused : (r : MonthFile) → r ≡ atRefusal f (end .number) → (end .number ≡ 0 → ⊥) → Moved f (openedOf f k) r after
+  opening-refused : (end .number ≡ 0 → ⊥) → Moved f (openedOf f k) (atRefusal f (end .number)) after
   unfolding openedOf opened
-  opening-refused r q z =
-      refuses-by f after (lent-after k (o .lent) (f .plants) (o .plants) ys zs many more) r (end .number) (fresh .answer .number) _ q
+  opening-refused z =
+      refuses-by f after (lent-after k (o .lent) (f .plants) (o .plants) ys zs many more) _ (end .number) (fresh .answer .number) _ refl
       (asks ∙ alike ∙ sym (open-number _ _ _ _ _)) z
 
   -- the month that is opened
@@ -174,7 +158,10 @@ module _ (f : MonthFile) (k : Kept) (o : Openable f k) (end : Opened) (ys : List
               });
         }
 
-    pub opening-opened : (g : MonthFile) → g ≡ atStage f 2 → Moved f (openedOf f k) (monthed g (end .month)) after
-    opening-opened g q =
+    opening-opened : Moved f (openedOf f k) (monthed (atStage f 2) (end .month)) after
+    opening-opened =
         moved-as f after (lent-after k (o .lent) (f .plants) (o .plants) ys zs many more) opened-moved
-        (sym (ap₂ monthed q (ap (λ (r : OpenEnd). r .answer .month) left))) refl
+        (ap (monthed (atStage f 2)) (sym (ap (λ (r : OpenEnd). r .answer .month) left))) refl
+
+  pub opening-called : {r : MonthFile} → r ≡ atCall f (end .number) (end .month) → Moved f (openedOf f k) r after
+  opening-called = called f (end .number) (end .month) (λ r. Moved f (openedOf f k) r after) opening-refused opening-opened

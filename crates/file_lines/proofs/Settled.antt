@@ -1,5 +1,5 @@
 -- A G line that is settled. Assumes nothing.
-use mathlib.Core.Path.{_≡_, refl, sym, ap, ap₂, _∙_}
+use mathlib.Core.Path.{_≡_, refl, sym, ap, _∙_}
 use mathlib.Core.Bool.{true}
 use mathlib.Core.List.{List, []}
 use Prim.Native.Nat.{ℕ, _+_, _*_, _≤_}
@@ -22,9 +22,9 @@ use Rattle.month.proofs.Asked as question
 use Rattle.file_lines.specs.declared.MonthFile.{MonthFile}
 use Rattle.file_lines.specs.File as file
 use Rattle.file_lines.specs.File.{settles, settled}
-use Rattle.file_lines.specs.State.{Kept, ledgerOf, progressOf, Lent, Settling, Valid, Moved, atStage, atRefusal, settledOf}
-use Rattle.file_lines.proofs.Moves.{valid-settling, moved-as, refuses-by}
-use Rattle.file_lines.proofs.Opened.{monthed, withLedger, lent-after, ledger-after}
+use Rattle.file_lines.specs.State.{Kept, ledgerOf, progressOf, Lent, Settling, Valid, Moved, atStage, monthed, atRefusal, atCall, settledOf}
+use Rattle.file_lines.proofs.Moves.{valid-settling, moved-as, refuses-by, called}
+use Rattle.file_lines.proofs.Opened.{withLedger, lent-after, ledger-after}
 
 -- of the allotment list settle asks the length alone
 settle-alike : (m : Month) (plants : List Plant) (profile metered lent other : List ℕ) (l : Ledger) → length lent ≡ length other
@@ -97,10 +97,10 @@ module _ (f : MonthFile) (k : Kept) (stage : f .stage ≡ 2) (v : Valid f k) (me
   asks : end .number ≡ settleNumber m rows profile metered lent ledger
   asks = ap (λ (r : SettleEnd). r .answer .number) e ∙ settle-number _ _ _ _ _ _
 
-  pub settling-refused : (r : MonthFile) → r ≡ atRefusal f (end .number) → (end .number ≡ 0 → ⊥) → Moved f (settledOf f k metered) r after
+  settling-refused : (end .number ≡ 0 → ⊥) → Moved f (settledOf f k metered) (atRefusal f (end .number)) after
   unfolding settledOf settled
-  settling-refused r q z =
-      refuses-by f after lents r (end .number) (settleCall m rows profile metered zeros ledger .answer .number) _ q
+  settling-refused z =
+      refuses-by f after lents _ (end .number) (settleCall m rows profile metered zeros ledger .answer .number) _ refl
       (asks ∙ alike ∙ sym (settle-number m rows profile metered zeros ledger)) z
 
   module _ (z : end .number ≡ 0) where
@@ -147,5 +147,8 @@ module _ (f : MonthFile) (k : Kept) (stage : f .stage ≡ 2) (v : Valid f k) (me
               });
         }
 
-    pub settling-settled : (q : MonthFile) → q ≡ atStage f 2 → Moved f (settledOf f k metered) (monthed q (end .month)) after
-    settling-settled q p = moved-as f after lents settled-moved (sym (ap₂ monthed p month-is)) refl
+    settling-settled : Moved f (settledOf f k metered) (monthed (atStage f 2) (end .month)) after
+    settling-settled = moved-as f after lents settled-moved (ap (monthed (atStage f 2)) (sym month-is)) refl
+
+  pub settling-called : {r : MonthFile} → r ≡ atCall f (end .number) (end .month) → Moved f (settledOf f k metered) r after
+  settling-called = called f (end .number) (end .month) (λ r. Moved f (settledOf f k metered) r after) settling-refused settling-settled

@@ -6,6 +6,7 @@ use mathlib.Core.List.{List}
 use lib.Dec.{eqb, leb, ltb}
 use lib.IntN.{ℤ}
 use lib.ListN.{length, take}
+use Rattle.lists.specs.Questions.{outcome}
 use Rattle.records.specs.Records.{rowsOf}
 use Rattle.ledger.specs.Ledger.{Ledger, inBounds}
 use Rattle.lines.specs.Fields.{longest}
@@ -114,13 +115,13 @@ atStage f stage =
       number = f .number;
     }
 
--- ... and a refusal
-unfoldable pub atRefusal : MonthFile → ℕ → MonthFile
-atRefusal f n =
+-- a state with another number, and with another month
+abbrev pub numbered : MonthFile → ℕ → MonthFile
+numbered f n =
     record {
-      stage = 3;
-      length = 0;
-      count = f .count + 1;
+      stage = f .stage;
+      length = f .length;
+      count = f .count;
       plants = f .plants;
       periods = f .periods;
       tariff = f .tariff;
@@ -129,6 +130,29 @@ atRefusal f n =
       month = f .month;
       number = n;
     }
+
+abbrev pub monthed : MonthFile → Month → MonthFile
+monthed f m =
+    record {
+      stage = f .stage;
+      length = f .length;
+      count = f .count;
+      plants = f .plants;
+      periods = f .periods;
+      tariff = f .tariff;
+      rows = f .rows;
+      figures = f .figures;
+      month = m;
+      number = f .number;
+    }
+
+-- the state with one more line read, refused
+unfoldable pub atRefusal : MonthFile → ℕ → MonthFile
+atRefusal f n = numbered (atStage f 3) n
+
+-- ... once open or settle has answered: refused, or among G lines with its month
+unfoldable pub atCall : MonthFile → ℕ → Month → MonthFile
+atCall f n m = outcome n (monthed (atStage f 2) m) (atRefusal f)
 
 -- ---- a line that is taken
 

@@ -2,7 +2,7 @@
 use month::Month;
 ghost use mathlib.Core.Path.{_≡_};
 ghost use Prim.Native.Nat.{_<_};
-ghost use Rattle.file_lines.specs.State.{atStage, atRefusal};
+ghost use Rattle.file_lines.specs.State.{atStage, atRefusal, atCall};
 
 pub mod beginning;
 mod gathering;
@@ -51,6 +51,19 @@ impl MonthFile {
     {
         let mut f = self.at_stage(3);
         f.number = number;
+        f
+    }
+
+    // Open or settle has answered: the line is refused, or the month goes on among G lines.
+    pub fn after_call(self, number: u64, month: Month) -> MonthFile
+        requires { ⌜ self .count < 10000 ⌝ }
+        ensures { λ r. ⌜ r ≡ atCall self number month ⌝ }
+    {
+        if number != 0 {
+            return self.refused(number);
+        }
+        let mut f = self.at_stage(2);
+        f.month = month;
         f
     }
 }

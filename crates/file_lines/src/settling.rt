@@ -31,11 +31,6 @@ pub fn settle_line(
         &mut allotted[..fours],
         &mut accounts[..twos],
     );
-    if end.number != 0 {
-        return file.refused(end.number);
-    }
     let month = end.month;
-    let mut f = file.at_stage(2);
-    f.month = month;
-    f
+    file.after_call(end.number, month)
 }

@@ -36,7 +36,7 @@ use Rattle.file_lines.specs.declared.MonthFile.{MonthFile}
 use Rattle.file_lines.specs.File as file
 use Rattle.file_lines.specs.File.{unfinished, Progress, read, refusal, printed, following}
 use Rattle.month_file.specs.Bytes.{finished}
-use Rattle.file_lines.specs.State.{Kept, ledgerOf, progressOf, Settling, Valid, atRefusal}
+use Rattle.file_lines.specs.State.{Kept, ledgerOf, progressOf, Settling, Valid, atStage, atRefusal}
 use Rattle.month_file.specs.Machine.{readingOf, unendedNumber, Finishable, AtEnd}
 use Rattle.file_lines.proofs.Following.{stays, reads}
 use Rattle.month_file.proofs.Bytes.{unfinished-some}
@@ -94,7 +94,7 @@ module _ (f : MonthFile) (k : Kept) (v : Valid f k) (line : List ℕ) where
 
   -- refused at the end
   at-refusal : (n : ℕ) (r : MonthFile) → r ≡ atRefusal f n → finished (readingOf f k line) ≡ refusal (f .count + 1) n → AtEnd f k line r
-  unfolding printed progressOf atRefusal
+  unfolding printed progressOf atRefusal atStage
   at-refusal n r e p = record { prints = rw e p; finishable = λ h. absurd (omega (arith, ap (λ (m : MonthFile). m .stage) e)) }
 
   module _ (due : f .stage ≤ 2) where

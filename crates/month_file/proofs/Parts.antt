@@ -11,7 +11,7 @@ use lib.Seq.{drop-cons, length-take-le}
 use Rattle.file_lines.specs.declared.MonthFile.{MonthFile}
 use Rattle.file_lines.specs.File as file
 use Rattle.file_lines.specs.File.{whole, read}
-use Rattle.file_lines.specs.State.{isRefused, Kept, progressOf, Valid, Moved, atRefusal}
+use Rattle.file_lines.specs.State.{isRefused, Kept, progressOf, Valid, Moved, atStage, atRefusal}
 use Rattle.month_file.specs.Bytes.{Reading, ended, longer, byte, fed}
 use Rattle.month_file.specs.Machine.{readingOf, Collected, Stepped, Fed}
 use Rattle.file_lines.proofs.Following.{reads}
@@ -127,7 +127,7 @@ module _ (f : MonthFile) (k : Kept) (v : Valid f k) (line part : List ℕ) (from
       full l b = omega (arith, c .full inside b, length-take-le (more .length) new (omega (arith, c .full inside b)))
 
       pub no-room : 8192 ≤ length new → (getD part end 0 ≡ 10 → ⊥) → (r : MonthFile) → r ≡ atRefusal more 26 → Stepped f k line part from r new (end + 1) false
-      unfolding readingOf atRefusal progressOf
+      unfolding readingOf atRefusal atStage progressOf
       no-room l b r e =
           record {
             low = omega (arith, c .low);

@@ -9,7 +9,7 @@ use Rattle.month.specs.Calls.{OpenEnd, openCall}
 use Rattle.file_lines.specs.declared.MonthFile.{MonthFile}
 use Rattle.file_lines.specs.File as file
 use Rattle.file_lines.specs.State.{Kept, kept, ledgerOf}
-use Rattle.file_lines.proofs.Opened.{front-count, opening-refused, opening-opened}
+use Rattle.file_lines.proofs.Opened.{front-count, opening-called}
 use Rattle.file_lines.proofs.opening.open_month.Statement.{statement}
 use Rattle.file_lines.proofs.opening.open_month.Tie as tie
 
@@ -51,11 +51,7 @@ open-month-spec =
     (λ c. let s = c .before .before .before .before .before .before in omega (arith, s .pre .plants, s .pre .lent .accounts))  -- slice-relend-prefix-open-columns-2
     (λ c. let s = c .before .before .before .before .before .before .before in front-count _ _ (omega (arith, s .pre .plants, s .pre .lent .accounts)))  -- slice-aggregate-open-columns-3
     (λ c κs. let s = c .before .before .before .before .before .before .before in s .pre .lent .columns)  -- open-columns-requires
-    (λ c κs. let s = c .before .before .before .before .before .before .before .before .before .before .before .before .before in omega (arith, s .pre .plants, s .pre .periods, s .pre .counted))  -- refused-requires
+    (λ c κs. let s = c .before .before .before .before .before .before .before .before .before .before .before .before in omega (arith, s .pre .plants, s .pre .periods, s .pre .counted))  -- after-call-requires
     (λ c. search needs)  -- same-length
     (λ c. search needs)  -- same-length-2
-    (λ c. let w = c .before .before .before .before .before .before in opening-refused _ (lists w) (entry w .pre) _ _ _ (answers w) (same w) (same-accounts w) _ (c .refused .ensures) (c .before .if1 .taken))  -- returns
-    (λ c κs. let s = c .before .before .before .before .before .before .before .before .before .before .before .before .before .before in omega (arith, s .pre .plants, s .pre .periods, s .pre .counted))  -- at-stage-requires
-    (λ c. search needs)  -- same-length-3
-    (λ c. search needs)  -- same-length-4
-    (λ c. let w = c .before .before .before .before .before .before .before in opening-opened _ (lists w) (entry w .pre) _ _ _ (answers w) (same w) (same-accounts w) (c .before .before .if1 .left) _ (c .at-stage .ensures)))  -- returns-2
+    (λ c. let w = c .before .before .before .before .before in opening-called _ (lists w) (entry w .pre) _ _ _ (answers w) (same w) (same-accounts w) (c .after-call .ensures)))  -- returns

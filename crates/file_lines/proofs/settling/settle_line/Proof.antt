@@ -11,7 +11,7 @@ use Rattle.month.specs.Calls.{SettleEnd, settleCall}
 use Rattle.file_lines.specs.declared.MonthFile.{MonthFile}
 use Rattle.file_lines.specs.State.{Kept, kept, ledgerOf, Counted}
 use Rattle.file_lines.proofs.Opened.{front-count}
-use Rattle.file_lines.proofs.Settled.{settling-refused, settling-settled}
+use Rattle.file_lines.proofs.Settled.{settling-called}
 use Rattle.file_lines.proofs.settling.settle_line.Statement.{statement}
 use Rattle.file_lines.proofs.settling.settle_line.Tie as tie
 
@@ -71,11 +71,7 @@ settle-line-spec =
     (λ c. let s = c .before .before .before .before .before .before .before .before in let g = known s in omega (arith, g .plants, s .pre .1 .lent .accounts))  -- slice-relend-prefix-settle-columns-2
     (λ c. let s = c .before .before .before .before .before .before .before .before .before in front-count _ _ (omega (arith, known s .plants, s .pre .1 .lent .accounts)))  -- slice-aggregate-settle-columns-4
     (λ c κs. let s = c .before .before .before .before .before .before .before .before .before in s .pre .1 .lent .columns)  -- settle-columns-requires
-    (λ c κs. let s = c .before .before .before .before .before .before .before .before .before .before .before .before .before .before .before .before in let g = known s in omega (arith, g .plants, g .periods, g .due, g .lines))  -- refused-requires
+    (λ c κs. let s = c .before .before .before .before .before .before .before .before .before .before .before .before .before .before .before in let g = known s in omega (arith, g .plants, g .periods, g .due, g .lines))  -- after-call-requires
     (λ c. search needs)  -- same-length
     (λ c. search needs)  -- same-length-2
-    (λ c. let w = c .before .before .before .before .before .before .before in settling-refused _ (lists w) (entry w .pre .0) (entry w .pre .1) _ (lent w) _ _ _ _ (few w) (answers w) (same w) (same-accounts w) _ (c .refused .ensures) (c .before .if1 .taken))  -- returns
-    (λ c κs. let s = c .before .before .before .before .before .before .before .before .before .before .before .before .before .before .before .before .before in let g = known s in omega (arith, g .plants, g .periods, g .due, g .lines))  -- at-stage-requires
-    (λ c. search needs)  -- same-length-3
-    (λ c. search needs)  -- same-length-4
-    (λ c. let w = c .before .before .before .before .before .before .before .before in settling-settled _ (lists w) (entry w .pre .0) (entry w .pre .1) _ (lent w) _ _ _ _ (few w) (answers w) (same w) (same-accounts w) (c .before .before .if1 .left) _ (c .at-stage .ensures)))  -- returns-2
+    (λ c. let w = c .before .before .before .before .before .before in settling-called _ (lists w) (entry w .pre .0) (entry w .pre .1) _ (lent w) _ _ _ _ (few w) (answers w) (same w) (same-accounts w) (c .after-call .ensures)))  -- returns

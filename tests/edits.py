@@ -10,11 +10,11 @@ An edit has one or more wrong answers, each in another function, definition or c
 PLACE is a file under proofs/, a function's without its /Proof, or specs/FILE. A function's proof reads its own code and the contracts of what it
 calls; where a contract or a law that it cites is refused too, the prover says so and not that a fact fails, and this part wants the
 fact. So no wrong answer can hide behind another."""
-import pathlib
 import re
 import sys
 
-ROOT = pathlib.Path(__file__).resolve().parent.parent
+from repository import CRATES, ROOT, check, counted
+
 # Words for a fact that is not proved: a tactic that does not close its goal, a goal left over, a need that nothing meets, a proof of
 # another fact than the one expected.
 FACT = re.compile(
@@ -23,7 +23,7 @@ FACT = re.compile(
 )
 # Two types that differ are both facts, or nothing is shown: where one is that of a value, or a need by its name, the proof file no longer
 # fits the code.
-NO_FACT = re.compile(r"(expected|has) type `\(*([^` ]*\.)?(ℕ|ℤ|Bool|List|Option|RefT|Array|Type|Month|Opened|Settled|Balanced|Ended|Stated|Sized)[ `]|(?<![\w-])Need-")
+NO_FACT = re.compile(r"(expected|has) type `\(*([^` ]*\.)?(ℕ|ℤ|Bool|List|Option|RefT|Array|Type|Month|Settled|Balanced|Ended|Stated|Sized)[ `]|(?<![\w-])Need-")
 NO_NAME = re.compile(r"that can be named from here|has no field|is not in scope:|no module is found")
 AFTER = re.compile(r"was not admitted \(")
 
@@ -71,14 +71,12 @@ def refused(log, place):
 
 
 def main():
-    passed, failed = 0, 0
-    for edit in sorted(ROOT.glob("crates/*/must-fail/*.edit")):
+    for edit in sorted(CRATES.glob("*/must-fail/*.edit")):
         crate, label = edit.parent.parent.name, edit.stem
         log = ROOT / "target" / "must-fail" / crate / label / ".log"
         answers = wrong_answers(edit)
         if not answers:
-            print(f"{crate}/{label}: names no wrong answer")
-            failed += 1
+            check(False, f"{crate}/{label}: names no wrong answer")
         places = [place for _, _, place in answers]
         for name, _, place in answers:
             if place is None or places.count(place) > 1:
@@ -87,13 +85,8 @@ def main():
                 why = "no log"
             else:
                 why = refused(log.read_text(), place)
-            if why:
-                print(f"{crate}/{label}, {name}: {why}")
-                failed += 1
-            else:
-                passed += 1
-    print(f"{passed} passed, {failed} failed")
-    return failed > 0
+            check(not why, f"{crate}/{label}, {name}: {why}")
+    return counted()
 
 
 if __name__ == "__main__":

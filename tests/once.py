@@ -2,12 +2,13 @@
 
 Used is what is reached by name from what readers and the prover begin with: a contract, the proof of a function, a theorem that
 docs/RULES.md names; and of the code an exported function, `main`, or a call of document 01 for callers in Rattle. A name that a `use`
-line takes is used where its file names it. Twice is a run of six lines that stands in two places. The walks by hand over plant
-records are alike from end to end, so one tool writes them: each of them has to be what tools/outer.py writes. The last line is
-'N passed, M failed'.
+line takes is used where its file names it. Twice is a run of six lines that stands in two places, a law that states what another
+states but for the names of its variables, and a record or struct with another's fields. The walks by hand over plant records are
+alike from end to end, so one tool writes them: each of them has to be what tools/outer.py writes. The last line is 'N passed, M failed'.
 
 Names are looked up as words: a lemma that has the name of a local variable of its file passes, and so does a function that has the name of a
-method which any crate calls. Fields, constructors, structs and constants are not held, nor copies with other names in them."""
+method which any crate calls. Whether fields, constructors, structs and constants are used is not held, nor copies of code or proofs with other
+names in them. Laws are compared with the modules around them as they are written: one that is an instance of another passes."""
 import collections
 import functools
 import itertools
@@ -18,10 +19,9 @@ import subprocess
 import sys
 import tempfile
 
-ROOT = pathlib.Path(__file__).resolve().parent.parent
-CRATES = ROOT / "crates"
+from repository import CRATES, MARKS, ROOT, check, counted, declared, functions_of, rows
+
 WORD = re.compile(r"[^\s(){}.;,@\"«»]+")
-MARKS = r"(?:(?:pub|unfoldable|abbrev|private) )*"
 SIX = 6
 # A line that says nothing by itself: `use`, an argument or a lemma on a line of its own; a field that stays as it was, since antt
 # has no update of a record; the frame of a function's proof, and there an answer that is at hand or left to `search`.
@@ -51,20 +51,6 @@ def reached(roots, cited):
 
 
 # ---- definitions and laws
-
-
-def declared(line):
-    """The name that a line of antt declares: a type, a set of lemmas, or what stands before a colon."""
-    if found := re.match(MARKS + r"(?:record|data|ruleset) (\S+)", line):
-        return found[1]
-    if not (found := re.match(MARKS + r"(\S+) ", line)):
-        return None
-    depth = 0
-    for word in re.findall(r"[(){}]|[^\s(){}]+", line[found.end() :]):
-        depth += (word in "({") - (word in ")}")
-        if depth == 0 and word in ("=", ":"):
-            return found[1].strip("«»") if word == ":" else None
-    return None
 
 
 def home(module):
@@ -185,14 +171,12 @@ def shown():
 
 def named():
     """What a row of docs/RULES.md names in its proof: a theorem, or a field of the claim that one shows."""
-    for line in (ROOT / "docs" / "RULES.md").read_text().splitlines():
-        cells = line.strip("|").split("|")
-        if re.match(r"\| [A-Z]\d+", line):
-            crates = re.findall(r"`(\w+)` ", cells[2])
-            names = set(re.findall(r"`([a-z][\w·-]*)(?: [^`]*)?`", cells[4]))
-            for path, source in sources().items():
-                if crate_of(path) in crates:
-                    yield from ((path, name) for name in source.line if names & {name, *source.fields.get(name, ())})
+    for cells in rows():
+        crates = re.findall(r"`(\w+)` ", cells[2])
+        names = set(re.findall(r"`([a-z][\w·-]*)(?: [^`]*)?`", cells[4]))
+        for path, source in sources().items():
+            if crate_of(path) in crates:
+                yield from ((path, name) for name in source.line if names & {name, *source.fields.get(name, ())})
 
 
 def laws():
@@ -226,17 +210,14 @@ def functions():
     """Every function is used."""
     calls, at, roots = {}, {}, set()
     for path in sorted(CRATES.glob("*/src/**/*.rt")):
-        crate, lines = crate_of(path), path.read_text().splitlines()
+        crate = crate_of(path)
         used = {name: of for of, name in re.findall(r"^use (\w+)::(?:\w+::)*(\w+);", path.read_text(), re.M)}
-        for number, line in enumerate(lines):
-            if found := re.match(r"( *)(?:pub )?(extern \"C\" )?fn (\w+)", line):
-                end = lines.index(found[1] + "}", number)
-                body = re.sub("//.*", "", "\n".join(lines[number + 1 : end]))
-                one = (crate, found[3])
-                at.setdefault(one, f"{place(path, number + 1)}")
-                calls.setdefault(one, set()).update(called(body, crate, used))
-                if found[2] and lines[number - 1].strip() == "#[no_mangle]" or found[3] == "main" or one in PUBLIC:
-                    roots.add(one)
+        for name, exported, line, lines in functions_of(path):
+            one = (crate, name)
+            at.setdefault(one, place(path, line))
+            calls.setdefault(one, set()).update(called(re.sub("//.*", "", "\n".join(lines[1:-1])), crate, used))
+            if exported or name == "main" or one in PUBLIC:
+                roots.add(one)
     seen = reached(roots, lambda one: (other for other in calls[one] if other in calls))
     for one, where in at.items():
         yield one in seen, f"{where}: nothing that is used calls {one[1]}"
@@ -324,16 +305,77 @@ def twice(left_out):
         yield True, path
 
 
+# ---- laws and records
+
+# What a declaration gives that is no law: a value of one of these.
+VALUES = {"ℕ", "ℤ", "List", "Bool", "Type", "Plant", "Hour", "Ledger", "Month", "MonthFile", "Kept", "Ended", "OpenEnd", "SettleEnd", "Place"}
+
+
+def blocks(lines):
+    """Each line with those below it that are indented further, as one line: its number, its indent, and the whole."""
+    depths = [len(line) - len(line.lstrip()) for line in lines]
+    for at, line in enumerate(lines):
+        below = itertools.takewhile(lambda k: depths[k] > depths[at] and not lines[k].lstrip().startswith("unfolding"), range(at + 1, len(lines)))
+        if line.strip():
+            yield at + 1, depths[at], " ".join([line.strip(), *(lines[k].strip() for k in below)])
+
+
+def statements(path):
+    """The laws of a file, each with its line and what it states, the parameters of the modules around it before it."""
+    around = []
+    for number, indent, text in blocks(re.sub("--.*", "", path.read_text()).splitlines()):
+        around = [(depth, given) for depth, given in around if depth < indent]
+        if text.startswith("module _ "):
+            around.append((indent, text[9:].partition(" where")[0]))
+        elif not re.match(r"((pub|private) )*(abbrev|unfoldable|record|data|ruleset|let) ", text) and declared(text):
+            stated = text.split(" : ", 1)[1]
+            if stated.rpartition("→ ")[2].split(" ")[0] not in VALUES:
+                yield number, " → ".join([given for _, given in around] + [stated])
+
+
+def unnamed(statement):
+    """A statement with its variables numbered in the order in which they come."""
+    bound = {name for group in re.findall(r"[({]([^(){}:]+?) : ", statement) for name in group.split()}
+    bound |= {name for group in re.findall(r"λ ([^.]*)\.", statement) for name in re.sub(r"[(){}]|: [^()]*", "", group).split()}
+    numbers = {}
+    return re.sub(
+        r"(?<![\w.])[^\s(){}.,;]+", lambda word: f"v{numbers.setdefault(word[0], len(numbers))}" if word[0] in bound else word[0], statement
+    ).translate(str.maketrans("{}", "()"))
+
+
+def fields(path):
+    """The records and structs of a file, each with its line and its fields."""
+    for number, _, text in blocks(re.sub("(--|//).*", "", path.read_text()).splitlines()):
+        if found := re.match(r"(?:pub )?(?:record .* where|struct \w+ {) (.*)", text):
+            yield number, tuple(sorted(re.split(r" ?pub |, ?pub ", " " + found[1].rstrip("}, "))[1:]))
+
+
+def said(what, found):
+    """Nothing that is found in the files is found in another place."""
+    places = collections.defaultdict(list)
+    for path in sources():
+        for number, one in found(path):
+            places[one].append(place(path, number))
+    for where in places.values():
+        yield len(where) == 1, f"one {what} stands at each of " + ", ".join(where)
+
+
+def laws_of(path):
+    if path.parent.name == "proofs":
+        yield from ((number, unnamed(one)) for number, one in statements(path) if "→" in one)
+
+
+def records_of(path):
+    yield from ((number, one) for number, one in fields(path) if len(one) > 1)
+
+
 def main():
     made = written()
-    failed, passed = 0, 0
-    for good, what in itertools.chain(laws(), imports(), functions(), walks(made), twice(made)):
-        passed += good
-        failed += not good
-        if not good:
-            print("FAILED", what)
-    print(f"{passed} passed, {failed} failed")
-    return failed > 0
+    for good, what in itertools.chain(
+        laws(), imports(), functions(), walks(made), twice(made), said("law", laws_of), said("list of fields", records_of)
+    ):
+        check(good, what)
+    return counted()
 
 
 if __name__ == "__main__":

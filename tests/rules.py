@@ -5,34 +5,22 @@ DECISIONS.md names is there, ARCHITECTURE.md's table of crates is crates.txt, RE
 include/iolwarch.h declares the exported functions and no other, and no function has 40 lines or a second loop.
 The last line is 'N passed, M failed'."""
 import functools
-import pathlib
 import re
 import sys
 
-ROOT = pathlib.Path(__file__).resolve().parent.parent
-CRATES = ROOT / "crates"
-passed, failed = 0, 0
-
-
-def check(good, what):
-    global passed, failed
-    if good:
-        passed += 1
-    else:
-        failed += 1
-        print("FAILED", what)
+from repository import CRATES, ROOT, RULES, check, counted, declared, functions_of, rows
 
 
 def text(paths):
     return "\n".join(path.read_text() for path in paths)
 
 
-def declares(source, name):
-    """A definition, theorem, record, field or constructor of a specs or proofs file, or what the code declares."""
-    plain = re.escape(name)
-    stated = rf"^\s*(?:(?:unfoldable|abbrev|private|pub|record|data) )*{plain}(?: [({{].*)? ?:"
-    coded = rf"^\s*(?:pub )?(?:struct|enum|const|fn) {plain}\b"
-    return re.search(f"{stated}|{coded}", source, re.M)
+@functools.cache
+def declared_in(path):
+    """The definitions, theorems, records, fields and constructors of a file of antt, or what a file of code declares."""
+    if path.suffix == ".rt":
+        return set(re.findall(r"^\s*(?:pub )?(?:struct|enum|const|fn) (\w+)", path.read_text(), re.M))
+    return {declared(line.strip()) for line in path.read_text().splitlines()}
 
 
 @functools.cache
@@ -42,7 +30,7 @@ def code(crate):
 
 @functools.cache
 def theorems(crate):
-    return text(path for part in ("specs", "proofs") for path in (CRATES / crate / part).glob("**/*.antt"))
+    return set().union(*(declared_in(path) for part in ("specs", "proofs") for path in (CRATES / crate / part).glob("**/*.antt")))
 
 
 def definition(row, cell):
@@ -71,33 +59,34 @@ def definition(row, cell):
         check(source.is_file(), f"{row}: no file {source.relative_to(ROOT)}")
         if source.is_file():
             for name in re.findall(r"`(?:\w+ )?\.?([^` ]+)(?: \.[^`]+)?`", names):
-                check(declares(source.read_text(), name), f"{row}: {name} does not stand in {source.relative_to(ROOT)}")
+                check(name in declared_in(source), f"{row}: {name} does not stand in {source.relative_to(ROOT)}")
     return crates
 
 
-def calls(row, cell, crates, public):
+def calls(row, cell, crates):
     """`crate::name` stands in that crate, a public call in one of those that row W1 names, any other name in a crate of
     the row's definitions."""
     for crate, name in re.findall(r"`(?:(\w+)::)?([a-z_0-9]+)`", cell):
         if name.startswith("iolwarch_"):
             check(name in exported(), f"{row}: no exported function {name}")
         else:
-            where = [crate] if crate else crates + public.get(name, [])
+            where = [crate] if crate else crates + public_calls().get(name, [])
             homes = [path.name for path in CRATES.iterdir() if re.search(rf"\bfn {name}\b", code(path.name))]
             check(set(where) & set(homes), f"{row}: no function {name} in {', '.join(where)}; it stands in {', '.join(homes) or 'no crate'}")
 
 
 @functools.cache
 def exported():
-    return set(re.findall(r'pub extern "C" fn (iolwarch_\w+)', text(CRATES.glob("*/src/*.rt"))))
+    found = (one for path in CRATES.glob("*/src/**/*.rt") for one in functions_of(path))
+    return {one.name for one in found if one.exported and one.name.startswith("iolwarch_")}
 
 
-def row_of(cells, edits, parts, public):
+def row_of(cells, edits, parts):
     row, _, defined, call, proof, test = cells
     crates = definition(row, defined)
-    calls(row, call, crates, public)
+    calls(row, call, crates)
     for name in re.findall(r"`([a-z][\w-]*)(?: [^`]*)?`", proof):
-        check(any(declares(theorems(crate), name) for crate in crates), f"{row}: no theorem {name} in {', '.join(crates)}")
+        check(any(name in theorems(crate) for crate in crates), f"{row}: no theorem {name} in {', '.join(crates)}")
     for names in re.findall(r"edits? ([\w, ]+)", test):
         for name in names.split(","):
             check(name.strip() in edits, f"{row}: no must-fail edit {name.strip()}")
@@ -106,33 +95,34 @@ def row_of(cells, edits, parts, public):
             check(name.strip() in parts | {"every part"}, f"{row}: no part {name.strip()} of the comparison")
 
 
-def rows():
+@functools.cache
+def public_calls():
+    """Row W1 is about every public call, and has their crates."""
+    (every,) = (cells for cells in rows() if cells[0] == "W1")
+    crates = re.findall(r"`(\w+)` \w+:", every[2])
+    return {name: crates for name in re.findall(r"`([a-z_]+)`", every[3])}
+
+
+def clauses():
     named = re.findall(r"^# (\w+): ", text(CRATES.glob("*/must-fail/*.edit")), re.M)
     edits = set(named)
     for name in sorted(edits):
         check(named.count(name) == 1, f"two wrong answers are named {name}, so a row's edit may be either")
     parts = set(re.findall(r'\("(\w+)", \w+::run\)', (ROOT / "tests" / "src" / "main.rs").read_text()))
-    lines = (ROOT / "docs" / "RULES.md").read_text().splitlines()
-    table = [[cell.strip() for cell in line.strip("|").split("|")] for line in lines if re.match(r"\| [A-Z]\d+", line)]
-    # row W1 is about every public call
-    (every,) = (cells for cells in table if cells[0] == "W1")
-    crates = re.findall(r"`(\w+)` \w+:", every[2])
-    public = {name: crates for name in re.findall(r"`([a-z_]+)`", every[3])}
     seen = set()
-    for cells in table:
+    for cells in rows():
         check(len(cells) == 6 and cells[0] not in seen, f"row {cells[0]}: six cells, each number once")
         # a request of document 02 that is not built yet has empty cells; a clause of document 01 has none
         check(cells[0].startswith("E") or all(cells), f"row {cells[0]}: an empty cell")
         seen.add(cells[0])
         if len(cells) == 6:
-            row_of(cells, edits, parts, public)
+            row_of(cells, edits, parts)
     print(f"{len(seen)} rows, {sum(not row.startswith('E') for row in seen)} of them of document 01")
 
 
 def contracts():
     """'What each public contract rules out': two wrong answers or more for each public call and for each exported function."""
-    rules = (ROOT / "docs" / "RULES.md").read_text()
-    section = rules.split("## What each public contract rules out")[1].split("\n## ")[0]
+    section = RULES.read_text().split("## What each public contract rules out")[1].split("\n## ")[0]
     calls = set()
     for cells in (line.strip("|").split("|") for line in section.splitlines() if line.startswith("| ")):
         answers = re.findall(r"(\w+) \(`(\w+)`\)", cells[1])
@@ -143,20 +133,16 @@ def contracts():
         for name, crate in answers:
             named = re.search(rf"^# {name}: ", text((CRATES / crate / "must-fail").glob("*.edit")), re.M)
             check(named, f"{cells[0].strip()}: no wrong answer {name} in {crate}/must-fail")
-    (public,) = (line.split("|")[4] for line in rules.splitlines() if line.startswith("| W1 |"))
-    for name in sorted(exported() | set(re.findall(r"`([a-z_]+)`", public))):
+    for name in sorted(exported() | set(public_calls())):
         check(name in calls, f"{name}: no wrong answers in 'What each public contract rules out'")
 
 
 def functions():
     """A function is read at once, contract and parameters with the body: under 40 lines from `fn` to its `}`, and one loop."""
     for path in sorted(CRATES.glob("*/src/**/*.rt")):
-        lines = path.read_text().splitlines()
-        for at, line in enumerate(lines):
-            if found := re.match(r"( *)(?:pub(?:\(\w+\))? )?(?:extern \"C\" )?fn (\w+)", line):
-                whole = lines[at : lines.index(found[1] + "}", at) + 1]
-                check(len(whole) < 40, f"{path.relative_to(ROOT)}: {found[2]} has {len(whole)} lines")
-                check(sum("while " in one for one in whole) < 2, f"{path.relative_to(ROOT)}: {found[2]} has a second loop")
+        for name, _, _, lines in functions_of(path):
+            check(len(lines) < 40, f"{path.relative_to(ROOT)}: {name} has {len(lines)} lines")
+            check(sum("while " in line for line in lines) < 2, f"{path.relative_to(ROOT)}: {name} has a second loop")
 
 
 def documents():
@@ -181,10 +167,9 @@ def header():
         check(name in exported(), f"no crate exports {name}, which include/iolwarch.h declares")
 
 
-rows()
+clauses()
 contracts()
 documents()
 header()
 functions()
-print(f"{passed} passed, {failed} failed")
-sys.exit(0 if failed == 0 else 1)
+sys.exit(counted())

@@ -6,15 +6,15 @@
 Two shapes stand, and the tool knows them as one: lets, each the length of a list or a call, of which the last answers.
 
     let n = plants.len(); let c = columns(plants); self.open_table(n, c, ..)                        the methods of Month
-    let meant = month_of(month); let opened = meant.open(plants, ..); opened_kept(month, opened)    the exported calls
+    let meant = month_of(month); let opened = meant.open(plants, ..); ended_kept(month, opened)    the exported calls
 
-A call is handed parameters and earlier lets. Of a parameter it gets a copy, but a `&mut` is given up, once; so is what a call answered. Numbers are u64 or
-usize, arrays of u64, and a struct that is a parameter is Copy.
+A call is handed parameters and earlier lets. Of a parameter it gets a copy, but a `&mut` is given up, once; so is what a call answered.
+Numbers are u64 or usize, arrays of u64, and a struct that is a parameter is Copy.
 
-The config: crate, fn (its path), structs (with the crate of each), params (with their types, as in Rattle), body, uses (`use` lines), fact and
-carry. An entry of body has let (name and type) and len, a list's name, or call, a crate and a path, args and fact. A call's fact is the callee's
-`ensures`, over the names, `x .now` of a list x and x-last of a `&mut` list after the call. The config's own fact is the function's `ensures`,
-over the last let, and carry is its proof from is-NAME, the fact of the call that answered NAME.
+The config: crate, fn (its path), structs (with the crate of each), params (with their types, as in Rattle), body, uses (`use` lines), fact
+and carry. An entry of body has let (name and type) and len, a list's name, or call, a crate and a path, args and fact. A call's fact is the
+callee's `ensures`, over the names, `x .now` of a list x and x-last of a `&mut` list after the call. The config's own fact is the function's
+`ensures`, over the last let, and carry is its proof from is-NAME, the fact of the call that answered NAME.
 """
 import json, re, sys
 
@@ -40,9 +40,11 @@ use prog.Wp.{Heap, Calls, Loops, WpFn, Tables}
 use ghost.Atoms.{Atoms}
 use contract.Monad.{Fun, fact}
 use contract.Running.{givenOf, tables, tablesOf}
-use types.Kit.{Given, ‵, raw, _⊛_, ⋆, some, later, _$_, _∵_, !, qed, by, move, keep, drop, use1, split, join, pick, fsplit, fjoin, feqL, suffices, frame, await, done}
+use types.Kit.{Given, ‵, raw, _⊛_, ⋆, some, later, _$_, _∵_, !, qed, by, move, keep, drop, use1, split, join, pick, fsplit, fjoin, feqL, \
+suffices, frame, await, done}
 use types.Part.{agg, whole, sub, look-in}
-use types.Run.{look, init, forget, stop, hop, fld, from, load, addr, of-opd, and-then, no-more, assigns, land, returns, enter, alloc1, alloc0, params1, pass1, pass0, free1, free0}
+use types.Run.{look, init, forget, stop, hop, fld, from, load, addr, of-opd, and-then, no-more, assigns, land, returns, enter, \
+alloc1, alloc0, params1, pass1, pass0, free1, free0}
 use sound.WpLaws.{FmC, fmOf, WpFn-mono}
 use denote.RattleType.{owns}
 use denote.Laws.{Is, shows}
@@ -59,7 +61,8 @@ use denote.Triple.Statement.{Contract, Triple}
 use denote.Triple.Call.{calls-at}
 use denote.Triple.Clauses.{ensured, lasts}
 use denote.Triple.Table.{entered, cited}
-use denote.Triple.Walked.{says, Stays, stay-none, stay-none-slice, gave-slice, walkOf, goes-none, goes-none-slice, goes-gave-slice, Walks, ends-at, walked, walk-meets}
+use denote.Triple.Walked.{says, Stays, stay-none, stay-none-slice, gave-slice, walkOf, goes-none, goes-none-slice, goes-gave-slice, \
+Walks, ends-at, walked, walk-meets}
 use denote.Exit.{yes}
 use denote.Builtin.{u64, usize, i64, u8}"""
 
@@ -96,17 +99,22 @@ class Value:
         self.name, self.type, self.local, self.life, self.value, self.last = name, type, local, life, f"val-{name}", f"{name}-last"
         of = type[type.index("[") + 1:-1] if "[" in type else type
         size = of.removeprefix("u64; ")
-        self.kind = "mut" if type.startswith("&mut") else "shr" if type.startswith("&") else "array" if of != type else "number" if of in DENOTED else "struct"
+        self.kind = "mut" if type.startswith("&mut") else "shr" if type.startswith("&") else \
+            "array" if of != type else "number" if of in DENOTED else "struct"
         self.is_list = self.kind in ("shr", "mut")
         self.element, self.ends = of if of in DENOTED else f"{of}-T.the-row", f"List {DENOTED.get(of, of)}"
         self.fits = f"room-{counts or name} .0" if counts or self.is_list else f"fits-{name}"
-        at, fits, laws, lent = f"{name} ({self.value} ∷ [])", f"record {{ fits = {self.fits} }}", f"{type}-T.the-type {type}-L.the-laws", f"(named {life}) κ-{name} {self.element}"
+        at, fits = f"{name} ({self.value} ∷ [])", f"record {{ fits = {self.fits} }}"
+        laws, lent = f"{type}-T.the-type {type}-L.the-laws", f"(named {life}) κ-{name} {self.element}"
         reference = ("slice-vals", f"sliceVal ({name} .ptr) (length ({name} .now))", f"RefT ({self.ends})", f"tt, (tt, ({fits}, tt))")
-        # how the machine value is spelled, it, the type in the logic, that the value has its local's type, the type's row, that the row tells the value
+        # how the machine value is spelled, it, the type in the logic, that the value has its local's type, the type's row, that the row
+        # tells the value
         self.spelled, self.machine, self.denoted, self.typed, self.row, self.tells = {
             "number": ("uint-vals w64", f"vint w64 {name}", "ℕ", f"tt, {fits}", type, "uint-tells w64"),
-            "struct": (f"LL.vals {laws}", f"LL.val {laws} {name}", type, f"LL.lawful {laws} 𝓤 H A W .typed {at} is-own-{name} .0", self.element, f"LL.tells {laws}"),
-            "array": ("", "", "List ℕ", f"array-lawful 𝓤 H A W u64 (uint-lawful 𝓤 H A W w64) {size} .typed {at} is-own-{name} .0", f"(Array u64 {size})", ""),
+            "struct": (f"LL.vals {laws}", f"LL.val {laws} {name}", type, f"LL.lawful {laws} 𝓤 H A W .typed {at} is-own-{name} .0",
+                       self.element, f"LL.tells {laws}"),
+            "array": ("", "", "List ℕ", f"array-lawful 𝓤 H A W u64 (uint-lawful 𝓤 H A W w64) {size} .typed {at} is-own-{name} .0",
+                      f"(Array u64 {size})", ""),
             "shr": (*reference, f"(ShrSlice {lent})", f"shr-slice-tells {lent}"),
             "mut": (*reference, f"(MutSlice {lent})", f"mut-slice-tells {lent}")}[self.kind]
         self.owned, self.token = f"{self.row} .own {at}", f"‵ (flft κ-{name} q-{name})"
@@ -118,7 +126,8 @@ class Value:
         return {"mut": f"gave-slice {lent}", "shr": f"stay-none-slice {lent} yes"}.get(self.kind, f"stay-none (λ _. {self.row}) yes")
     def goes(self, lives):
         element = f"tt (plain (λ _. {self.element}))"
-        return {"mut": f"goes-gave-slice 𝓤 H A W {lives} {self.life} {element}", "shr": f"goes-none-slice 𝓤 H A W {lives} ({self.life} ∷ []) {element} yes"}.get(
+        return {"mut": f"goes-gave-slice 𝓤 H A W {lives} {self.life} {element}",
+                "shr": f"goes-none-slice 𝓤 H A W {lives} ({self.life} ∷ []) {element} yes"}.get(
             self.kind, f"goes-none 𝓤 H A W {lives} (λ _. {self.row}) yes (λ κs x f. refl)")
 
 
@@ -126,8 +135,8 @@ def of_kind(values, *kinds): return [v for v in values if v.kind in kinds]
 
 
 class Context:
-    """What a proof has, by names, and the steps that it has said: each stands with the places that the names had then. A list's token is t-NAME,
-    what a value owns o-NAME, what of it is handed to a call s-NAME, and local i is c<i>, with d<i> to free it."""
+    """What a proof has, by names, and the steps that it has said: each stands with the places that the names had then. A list's token is
+    t-NAME, what a value owns o-NAME, what of it is handed to a call s-NAME, and local i is c<i>, with d<i> to free it."""
     def __init__(self, items): self.items, self.said = list(items), []
     def at(self, name): return self.items.index(name)
     def rename(self, old, new): self.items[self.at(old)] = new
@@ -174,7 +183,8 @@ class Outer:
     def __init__(self, config):
         self.config, self.crate, self.uses, self.lines, lives = config, config["crate"], [], [], iter(range(99))
         self.params = [Value(n, t, i + 1, next(lives) if t.startswith("&") else None) for i, (n, t) in enumerate(config["params"].items())]
-        self.lists, self.muts, self.structs, self.numbers = (of_kind(self.params, *kinds) for kinds in (("shr", "mut"), ("mut",), ("struct",), ("number",)))
+        kinds = ("shr", "mut"), ("mut",), ("struct",), ("number",)
+        self.lists, self.muts, self.structs, self.numbers = (of_kind(self.params, *some) for some in kinds)
         values, self.body, answered = {p.name: p for p in self.params}, [], []
         for entry in config["body"]:
             (name, type), = entry["let"].items()
@@ -187,10 +197,13 @@ class Outer:
         self.lent = {m: (first + 2 * j, first + 2 * j + 1) for j, m in enumerate(self.muts)}
         self.locals = range(first + 2 * len(self.muts))
         self.κs, self.qs = (tuple_of([f"{x}-{p.name}" for p in self.lists]) for x in "κq")
-        self.named, self.clauses, self.name = tuple_of([p.name for p in self.params]), f"f.ended stayed (f.clauses {LOGIC})", key(config["fn"][-1:])
+        self.named, self.name = tuple_of([p.name for p in self.params]), key(config["fn"][-1:])
+        self.clauses = f"f.ended stayed (f.clauses {LOGIC})"
         # what the function has at its exit
-        self.exit = {**{f"t-{p.name}": p.token for p in self.lists}, **{f"o-{p.name}": f"‵ Own-{p.name}" for p in of_kind(self.params, "struct", "shr")},
-                     **{p.last: f"‵ (finally {p.element} ({p.name} .name) {p.last})" for p in self.muts}, f"o-{let.name}": f"‵ ({let.owned})"}
+        self.exit = {**{f"t-{p.name}": p.token for p in self.lists},
+                     **{f"o-{p.name}": f"‵ Own-{p.name}" for p in of_kind(self.params, "struct", "shr")},
+                     **{p.last: f"‵ (finally {p.element} ({p.name} .name) {p.last})" for p in self.muts},
+                     f"o-{let.name}": f"‵ ({let.owned})"}
 
     def say(self, *lines): self.lines += lines
     def abbrev(self, name, type, body): self.say(f"  abbrev {name.split()[0]} : {type}", f"  {name} = {body}", "")
@@ -200,21 +213,28 @@ class Outer:
 
     def imports(self):
         own, structs = self.module("proofs", self.crate, *self.config["fn"]), self.config["structs"].items()
-        self.uses = [*HEAD.split("\n"), *(f"use {self.module('specs', c, 'declared', s)}.{{{s}}}" for s, c in structs), *(f"use {u}" for u in self.config["uses"])]
-        for s, c in structs: self.uses += [f"use {self.module('proofs', c, s)} as {s}-T", f"use {self.module('proofs', c, s)}.Laws as {s}-L"]
+        self.uses = [*HEAD.split("\n"), *(f"use {self.module('specs', c, 'declared', s)}.{{{s}}}" for s, c in structs),
+                     *(f"use {u}" for u in self.config["uses"])]
+        for s, c in structs:
+            at = self.module("proofs", c, s)
+            self.uses += [f"use {at} as {s}-T", f"use {at}.Laws as {s}-L"]
         for c in self.calls:
             at = self.module("proofs", *c.path)
-            self.uses += [f"use {at} as {c.g}", f"use {at}.Symbol as {c.g}-def", f"use {at}.Symbol.{{name as #{c.g}}}", f"use {at}.Met as {c.g}-thm"]
+            self.uses += [f"use {at} as {c.g}", f"use {at}.Symbol as {c.g}-def", f"use {at}.Symbol.{{name as #{c.g}}}",
+                          f"use {at}.Met as {c.g}-thm"]
         self.uses += [f"use {own}.Key.{{name as #f}}", f"use {own} as f", f"use {own}.Statement as stated", f"use {own}.Code as code"]
 
     def contracts(self):
-        self.say("abbrev stayed : Stays (f.ended .signature .params) (f.ended .kept)", f"stayed = {tuple_of([p.stays() for p in self.params])}", "")
+        self.say("abbrev stayed : Stays (f.ended .signature .params) (f.ended .kept)",
+            f"stayed = {tuple_of([p.stays() for p in self.params])}", "")
         self.say(f"{MODULE} {ROUTINES} where", "  -- the contracts that the proof cites")
         for c in self.calls: self.abbrev(f"Contract-{c.g}", "Contract 𝓤", f"tripleOf 𝓤 H A {c.g}.signature ({c.g}.spec {LOGIC})")
 
     def parameters(self):
-        bound = [f"({' '.join(f'{x}-{p.name}' for p in self.lists)} : {t})" for x, t in (("κ", "Lft"), ("q", "Share"))] + [f"({p.name} : {p.denoted})" for p in self.params]
-        facts = [f"(room-{p.name} : Room {p.element} (length ({p.name} .now)))" if p.is_list else f"(fits-{p.name} : {p.name} < 2 ^ 64)" for p in self.params if p.kind != "struct"]
+        bound = [f"({' '.join(f'{x}-{p.name}' for p in self.lists)} : {t})" for x, t in (("κ", "Lft"), ("q", "Share"))]
+        bound += [f"({p.name} : {p.denoted})" for p in self.params]
+        facts = [f"(room-{p.name} : Room {p.element} (length ({p.name} .now)))" if p.is_list else f"(fits-{p.name} : {p.name} < 2 ^ 64)"
+                 for p in self.params if p.kind != "struct"]
         self.say(f"{MODULE} (W : Given 𝓤 H A) {ROUTINES} {words(*bound)}", f"    {words(*facts)} where")
         for let, of in self.body:
             if isinstance(of, Value): self.abbrev(let.name, "ℕ", f"length ({of.name} .now)")
@@ -226,9 +246,11 @@ class Outer:
         self.abbrev("bound", f"walkOf 𝓤 H A {self.clauses} .Ghost", f"(({self.κs}, {self.qs}, tt, {self.named}, at), tt)")
         self.abbrev("Post", "Val → SProp 𝓤", f"walkOf 𝓤 H A {self.clauses} .post bound")
         self.say("  -- what the contract says, and what each callee's says")
-        told = [("Told", [self.answer], self.muts, self.config["fact"])] + [(f"Said-{c.g}", [*c.answered, c.answer], c.muts, c.fact) for c in self.calls]
+        told = [("Told", [self.answer], self.muts, self.config["fact"])]
+        told += [(f"Said-{c.g}", [*c.answered, c.answer], c.muts, c.fact) for c in self.calls]
         for name, over, muts, fact in told:
-            self.abbrev(words(name, *(v.name for v in over), *(m.last for m in muts)), arrows(*(v.denoted for v in over), *(m.ends for m in muts), "Type 0"), fact)
+            type = arrows(*(v.denoted for v in over), *(m.ends for m in muts), "Type 0")
+            self.abbrev(words(name, *(v.name for v in over), *(m.last for m in muts)), type, fact)
 
     def exits(self):
         """That what the function has at its exit is what its contract promises."""
@@ -239,9 +261,11 @@ class Outer:
         X.pushed("fjoin !", [p.last if p.kind == "mut" else f"o-{p.name}" for p in self.params], "owned"); X.turn("frame !", ["owned"])
         ends, fit = (tuple_of([text.format(p.name) if p.kind == "mut" else "tt" for p in self.params]) for text in ("{}-last", "length-{}"))
         bound = words(f"({r.name} : {r.denoted}) ({r.value} : Val)", *(f"({m.last} : {m.ends})" for m in self.muts))
-        type = arrows(bound, *(f"length {m.last} ≡ length ({m.name} .now)" for m in self.muts), words("Told", r.name, *lasts), f"ent 𝓤 (⋆ 𝓤 H A {held}) (Post {r.value})")
+        type = arrows(bound, *(f"length {m.last} ≡ length ({m.name} .now)" for m in self.muts), words("Told", r.name, *lasts),
+            f"ent 𝓤 (⋆ 𝓤 H A {held}) (Post {r.value})")
         self.say(f"  exits : {type}", f"  {words('exits', r.name, r.value, *lasts, *(f'length-{m.name}' for m in self.muts))} e =",
-            f"      qed W {held} ∵ suffices ! _ (ends-at 𝓤 H A {self.clauses} W bound {r.value} {r.name} {ends} {fit}) $ says ! e $ {X.text()} done !", "")
+            f"      qed W {held} ∵ suffices ! _ (ends-at 𝓤 H A {self.clauses} W bound {r.value} {r.name} {ends} {fit}) $"
+            f" says ! e $ {X.text()} done !", "")
 
     def hands(self, c):
         """That what a callee is handed is what its contract asks for."""
@@ -252,9 +276,11 @@ class Outer:
         values = tuple_of([f"{a.machine if a in c.numbers else a.value} ∷ []" for a in c.args])
         bound = words(*(f"({a.name} : {a.denoted}) ({a.value} : Val)" for a in c.earlier))
         self.say(f"  -- the call of {called(c.path)}")
-        self.abbrev(c.given, arrows(*(a.denoted for a in c.earlier), product([a.denoted for a in c.args])), tuple_of([a.name for a in c.args]))
-        self.abbrev(c.to, arrows(*(f"{a.denoted} → Val" for a in c.earlier), f"{c.contract} .Ghost"), f"(({c.κs}, {c.qs}, tt, {c.given}, {values}), tt)")
-        self.say(f"  goes-{c.g} : {arrows(bound, f'ent 𝓤 (⋆ 𝓤 H A {c.all}) ({c.contract} .pre ({c.to}))')}", f"  {c.goes} = qed W {c.all} ∵ {G.text()} frame ! $ done !", "")
+        given, to = product([a.denoted for a in c.args]), f"(({c.κs}, {c.qs}, tt, {c.given}, {values}), tt)"
+        self.abbrev(c.given, arrows(*(a.denoted for a in c.earlier), given), tuple_of([a.name for a in c.args]))
+        self.abbrev(c.to, arrows(*(f"{a.denoted} → Val" for a in c.earlier), f"{c.contract} .Ghost"), to)
+        self.say(f"  goes-{c.g} : {arrows(bound, f'ent 𝓤 (⋆ 𝓤 H A {c.all}) ({c.contract} .pre ({c.to}))')}",
+            f"  {c.goes} = qed W {c.all} ∵ {G.text()} frame ! $ done !", "")
 
     # ---- the walk: C is its context
 
@@ -270,10 +296,13 @@ class Outer:
 
     def walk(self):
         values, known = listed(p.value for p in self.params), words(*(c.known("C") for c in self.calls))
-        entry = arrows(*(f"Is {p.row} {p.name} ({p.value} ∷ [])" for p in self.structs), f"ent 𝓤 (onEntry 𝓤 H A f.signature {self.κs} {self.qs} {self.named} at) (WpFn 𝓤 H C Λ code.function {values} Post)")
+        entry = arrows(*(f"Is {p.row} {p.name} ({p.value} ∷ [])" for p in self.structs),
+            f"ent 𝓤 (onEntry 𝓤 H A f.signature {self.κs} {self.qs} {self.named} at) (WpFn 𝓤 H C Λ code.function {values} Post)")
         had = f"({chain([p.token for p in self.lists] + ['‵ ftrue'])} ∷ ‵ (owns {listed(p.row for p in self.params)} {self.named} at) ∷ [])"
-        self.say(f"  module _ (C : Calls 𝓤 H) (Λ : Loops 𝓤 H) (fm : FmC 𝓤 H (W .laws) C) {known} where", f"    walk : {entry}", f"    {words('walk', *(f'is-own-{p.name}' for p in self.structs))} =",
-            f"        qed W {had} ∵ enter ! C Λ code.function {values} _ $", "        " + "".join(f"alloc1 ! (λ l{i}. " for i in self.locals) + "alloc0 ! $ params1 ! $")
+        self.say(f"  module _ (C : Calls 𝓤 H) (Λ : Loops 𝓤 H) (fm : FmC 𝓤 H (W .laws) C) {known} where", f"    walk : {entry}",
+            f"    {words('walk', *(f'is-own-{p.name}' for p in self.structs))} =",
+            f"        qed W {had} ∵ enter ! C Λ code.function {values} _ $",
+            "        " + "".join(f"alloc1 ! (λ l{i}. " for i in self.locals) + "alloc0 ! $ params1 ! $")
         C = self.C = Context([x for i in reversed(self.locals) for x in (f"c{i}", f"d{i}")] + ["tokens", "owned"])
         self.opened = len(self.locals)
         for p in self.params: C.say(f"pass1 ! (init ! {self.at(p.local)} refl ({p.typed}))")
@@ -288,7 +317,8 @@ class Outer:
         for i in self.locals: C.turn("free1 !", [f"c{i}", f"d{i}"])
         C.say("free0 !"); C.say(f"keep ! {listed(str(C.at(n)) for n in self.exit)}"); self.steps()
         lasts = {m: last for c in self.calls for m, last in c.lasts.items()}
-        exits = words("exits", self.answer.name, self.answer.value, *(lasts[m] for m in self.muts), *(f"length-{m.name}" for m in self.muts))
+        exits = words("exits", self.answer.name, self.answer.value, *(lasts[m] for m in self.muts),
+            *(f"length-{m.name}" for m in self.muts))
         self.say(f"        by ! ({exits} ({self.config['carry']}))" + ")" * self.opened, "")
 
     def calling(self, c):
@@ -297,7 +327,8 @@ class Outer:
         self.shown()
         for m in c.muts:
             address, slice = self.lent[m]
-            C.say(f"assigns ! (addr ! (from ! (fld ! refl (hop ! (look-in ! {self.at(m.local)} (sub ! 0 refl (whole !))) (stop !))))) {self.into(address, 'tt, tt')}")
+            C.say(f"assigns ! (addr ! (from ! (fld ! refl (hop ! (look-in ! {self.at(m.local)} (sub ! 0 refl (whole !))) (stop !)))))"
+                f" {self.into(address, 'tt, tt')}")
             C.say(f"assigns ! (agg ! {operands([self.loaded(address), self.counted(m)])}) {self.into(slice, m.typed)}"); self.steps()
         for a in c.args:
             if a in c.muts or a in c.earlier: C.rename(f"o-{a.name}", f"s-{a.name}")
@@ -312,23 +343,29 @@ class Outer:
         C, r, ws = self.C, c.answer, f"ws-{c.g}"
         ensured = f"ensured 𝓤 H A {c.g}.ended ({c.g}.clauses {LOGIC}) {c.κs} ({c.given}) tt {r.name}"
         lasts = product([a.ends if a in c.muts else "Unit {0}" for a in c.args])
-        self.steps(f"use1 W (later (some (λ ({r.name} : {r.denoted}). ({c.tokens} ⊛ ‵ ({r.owned})) ⊛ raw ({ensured})))) (id⊢ 𝓤 _) $ await ! tt $ pick ! (λ {r.name}.",
-            f"split ! $ move ! (1 ∷ []) $ use1 W (some (λ ({ws} : {lasts}). ‵ (lasts {c.g}.ended {c.κs} ({c.given}) {ws}) ⊛ raw (fact 𝓤 ({c.said})))) (id⊢ 𝓤 _) $ pick ! (λ {ws}.",
+        self.steps(f"use1 W (later (some (λ ({r.name} : {r.denoted}). ({c.tokens} ⊛ ‵ ({r.owned})) ⊛ raw ({ensured})))) (id⊢ 𝓤 _) $"
+            f" await ! tt $ pick ! (λ {r.name}.",
+            f"split ! $ move ! (1 ∷ []) $ use1 W (some (λ ({ws} : {lasts}). ‵ (lasts {c.g}.ended {c.κs} ({c.given}) {ws})"
+            f" ⊛ raw (fact 𝓤 ({c.said})))) (id⊢ 𝓤 _) $ pick ! (λ {ws}.",
             f"split ! $ move ! (1 ∷ []) $ heard ! ({c.said}) (λ is-{r.name}.")
         C.items[:1] = ["lasts", "back"]
         for a in c.args:
             C.turn("fsplit !", ["lasts"], "last", "lasts")
-            if a in c.muts: C.turn("fsplit !", ["last"], a.last, "same"); C.front(["same"]); C.items.pop(0); self.steps(f"feqL ! (λ length-{a.name}.")
+            if a in c.muts:
+                C.turn("fsplit !", ["last"], a.last, "same"); C.front(["same"]); C.items.pop(0)
+                self.steps(f"feqL ! (λ length-{a.name}.")
             else: C.turn("drop !", ["last"])
         C.turn("drop !", ["lasts"]); C.turn("split !", ["back"], "tokens", f"o-{r.name}")
         C.pull("split !", "tokens", [f"t-{a.name}" for a in c.lists], "none"); C.turn("drop !", ["none"]); C.front([f"o-{r.name}"])
-        self.steps(f"peeks ! {r.row} (Is {r.row}) (shows 𝓤 H A {r.row}) {r.name} ({r.value} ∷ []) (λ is-own-{r.name}. land ! {self.into(r.local, r.typed)} $")
+        self.steps(f"peeks ! {r.row} (Is {r.row}) (shows 𝓤 H A {r.row}) {r.name} ({r.value} ∷ []) (λ is-own-{r.name}."
+            f" land ! {self.into(r.local, r.typed)} $")
 
     def meets(self):
         """The walk at every choice of lifetimes, shares and arguments, taken to the contract and to the routine."""
         lives, parameters = range(len(self.lists)), list(enumerate(self.params))
         facts = [f"(are{' .1' * i} .0{' .0' * p.is_list} .1)" for i, p in parameters if p.kind != "struct"]
-        taken = words(*(field(x, j) for x in ("κs", "qs") for j in lives), *(field("a", i) for i, _ in parameters), *facts, "(𝓣 .C) (𝓣 .Λ) (fmOf 𝓤 H (W .laws) 𝓣)",
+        taken = words(*(field(x, j) for x in ("κs", "qs") for j in lives), *(field("a", i) for i, _ in parameters), *facts,
+            "(𝓣 .C) (𝓣 .Λ) (fmOf 𝓤 H (W .laws) 𝓣)",
             *(f"known-{c.g}" for c in self.calls), *(field("are", i) for i, p in parameters if p.kind == "struct"))
         tells = tuple_of([p.tells.replace(f"κ-{p.name} ", f"{field('κs', p.life or 0)} ") for p in self.params])
         self.say(f"{MODULE} (W : Given 𝓤 H A) {ROUTINES} (𝓣 : Tables 𝓤 H) {words(*(c.known('𝓣 .C') for c in self.calls))} where",
@@ -339,17 +376,22 @@ class Outer:
             f"  {self.name}-meets = walk-meets 𝓤 H A f.ended stayed W {tuple_of([p.goes(len(lives)) for p in self.params])}",
             f"      (f.clauses {LOGIC}) {RUN} (WpFn-mono 𝓤 H (W .laws) 𝓣 code.function) {self.name}-walks", "")
         logic, tables = "𝓤 H (𝓖 .A) (𝓜 .mem) (𝓡 .run)", "tables 𝓤 H 𝓜 𝓡 code.env"
-        theorems = [f"    (cited 𝓤 H (Contract-{c.g} {logic}) 𝓜 𝓡 code.env #{c.g} {c.g}-def.routine code.calls-{key(c.path)} ({c.g}-thm.met 𝓤 H 𝓜 𝓖 𝓡))" for c in self.calls]
-        self.say(f"pub {self.name}-spec : {{M : Type 1}} → stated.statement M", "unfolding code.routine tablesOf", f"{self.name}-spec 𝓤 H 𝓜 𝓖 𝓡 =",
-            f"    entered 𝓤 H (tripleOf 𝓤 H (𝓖 .A) f.signature (f.spec {logic})) ({tables} .C) ({tables} .Λ) #f code.function (code.unfolded 𝓤 H 𝓜 𝓡)",
-            f"    ({self.name}-meets 𝓤 H (𝓖 .A) (givenOf 𝓤 H 𝓜 𝓖) (𝓜 .mem) (𝓡 .run) (tablesOf 𝓤 H 𝓜 ({tables}))", *theorems[:-1], theorems[-1] + ")")
+        theorems = [f"    (cited 𝓤 H (Contract-{c.g} {logic}) 𝓜 𝓡 code.env #{c.g} {c.g}-def.routine code.calls-{key(c.path)}"
+                    f" ({c.g}-thm.met 𝓤 H 𝓜 𝓖 𝓡))" for c in self.calls]
+        self.say(f"pub {self.name}-spec : {{M : Type 1}} → stated.statement M", "unfolding code.routine tablesOf",
+            f"{self.name}-spec 𝓤 H 𝓜 𝓖 𝓡 =",
+            f"    entered 𝓤 H (tripleOf 𝓤 H (𝓖 .A) f.signature (f.spec {logic})) ({tables} .C) ({tables} .Λ) #f code.function"
+            " (code.unfolded 𝓤 H 𝓜 𝓡)",
+            f"    ({self.name}-meets 𝓤 H (𝓖 .A) (givenOf 𝓤 H 𝓜 𝓖) (𝓜 .mem) (𝓡 .run) (tablesOf 𝓤 H 𝓜 ({tables}))",
+            *theorems[:-1], theorems[-1] + ")")
 
     def text(self):
         self.imports(); self.contracts(); self.parameters(); self.exits()
         for c in self.calls: self.hands(c)
         self.walk(); self.meets()
         head = [f"-- {called([self.crate, *self.config['fn']])} meets its contract: a walk of its MIR, written by tools/outer.py.",
-            f"-- All that it knows of {', '.join(called(c.path) for c in self.calls)} is that each meets its contract.", "-- Assumes nothing."]
+            f"-- All that it knows of {', '.join(called(c.path) for c in self.calls)} is that each meets its contract.",
+            "-- Assumes nothing."]
         body = "\n".join(self.lines)
         return "\n".join([*head, *cited(self.uses, body), "", body, ""])
 

@@ -1,6 +1,13 @@
 // wide::mul_div against Rust's u128: first the results, then the time as a ratio, both measured in one run.
+use random::Random;
 use std::hint::black_box;
 use std::time::Instant;
+
+#[allow(dead_code)] // the comparisons draw more than this
+#[path = "../src/random.rs"]
+mod random;
+
+const SEED: u64 = 62_64;
 
 extern "C" {
     fn bench_mul_div(t: u64, c: u64, w: u64) -> u64;
@@ -12,22 +19,6 @@ extern "C" fn with_u128(t: u64, c: u64, w: u64) -> u64 {
 
 type Call = unsafe extern "C" fn(u64, u64, u64) -> u64;
 type Figures = (u64, u64, u64);
-
-struct Random(u64);
-
-impl Random {
-    fn next(&mut self) -> u64 {
-        self.0 ^= self.0 << 13;
-        self.0 ^= self.0 >> 7;
-        self.0 ^= self.0 << 17;
-        self.0
-    }
-
-    // Any number of at most so many bits.
-    fn of_bits(&mut self, bits: u32) -> u64 {
-        if bits == 0 { 0 } else { self.next() >> (64 - bits) }
-    }
-}
 
 // Each power of 2 with its neighbours, and numbers whose upper or lower half is all ones or all zeros.
 fn edges(bits: u32) -> Vec<u64> {
@@ -57,11 +48,11 @@ fn compare() -> usize {
             totals.iter().for_each(|&t| same(t, c, w));
         }
     }
-    let mut random = Random(88172645463325252);
+    let mut random = Random::new(SEED);
     for _ in 0..5_000_000 {
-        let (t_bits, w_bits) = ((random.next() % 65) as u32, (random.next() % 63) as u32);
+        let (t_bits, w_bits) = (random.between(0, 64), random.between(0, 62));
         let (t, w) = (random.of_bits(t_bits), random.of_bits(w_bits));
-        same(t, random.next() % (w + 1), w);
+        same(t, random.between(0, w), w);
     }
     count
 }
@@ -83,12 +74,12 @@ fn time(call: Call, figures: &[Figures], chained: bool) -> f64 {
 fn main() {
     println!("{} results agree", compare());
     for (t_bits, w_bits) in [(31, 31), (40, 41), (31, 49), (62, 41), (62, 49), (62, 62)] {
-        let mut random = Random(88172645463325252);
+        let mut random = Random::new(SEED);
         // so many that the processor cannot learn which way each goes
         let figures: Vec<Figures> = (0..100_000)
             .map(|_| {
                 let w = random.of_bits(w_bits) | 1 << (w_bits - 1);
-                (random.of_bits(t_bits), random.next() % (w + 1), w)
+                (random.of_bits(t_bits), random.between(0, w), w)
             })
             .collect();
         // the best of many rounds, in which the two take turns

@@ -80,6 +80,11 @@ static void transfers(void)
              refused);
 }
 
+static int same_month(iolwarch_month a, iolwarch_month b)
+{
+    return memcmp(&a, &b, sizeof a) == 0;
+}
+
 /* Close and balance of a month; a refusal hands the month back as it came, a stage that is none of the three too. */
 static void months(void)
 {
@@ -92,16 +97,16 @@ static void months(void)
     iolwarch_sums sums;
     check(end.number == 0 && end.month.stage == 2 && end.month.due == 2 && end.month.tariff == 1300, "close");
     end = iolwarch_close(early);
-    check(end.number == 20 && memcmp(&end.month, &early, sizeof early) == 0, "close with a period to settle");
+    check(end.number == 20 && same_month(end.month, early), "close with a period to settle");
     end = iolwarch_close(strange);
-    check(end.number == 12 && memcmp(&end.month, &strange, sizeof strange) == 0, "close of a month in no stage");
+    check(end.number == 12 && same_month(end.month, strange), "close of a month in no stage");
     sums = iolwarch_balance(due, allotted, 4, accounts, 2);
     check(sums.number == 0 && memcmp(sums.columns, allotted, sizeof allotted) == 0, "balance, columns");
-    check(sums.net == 45 && sums.money == -58500 && memcmp(&sums.month, &due, sizeof due) == 0, "balance, net and money");
+    check(sums.net == 45 && sums.money == -58500 && same_month(sums.month, due), "balance, net and money");
     sums = iolwarch_balance(due, allotted, 3, accounts, 2);
     check(sums.number == 11 && sums.columns[0] == 0 && sums.net == 0 && sums.money == 0, "balance of a short ledger");
     sums = iolwarch_balance(strange, allotted, 4, accounts, 2);
-    check(sums.number == 21 && memcmp(&sums.month, &strange, sizeof strange) == 0, "balance of a blank month");
+    check(sums.number == 21 && same_month(sums.month, strange), "balance of a blank month");
 }
 
 /* The lists of document 01's example month: three plants, one period. Each list that a call writes has one figure more
@@ -145,11 +150,6 @@ static iolwarch_settled settle(lists *l, iolwarch_month month)
 {
     return iolwarch_settle(month, l->plants, ROWS, l->profile, 1, l->metered, ROWS, l->allotment, 4 * ROWS,
                            l->allotted, 4 * ROWS, l->accounts, 2 * ROWS);
-}
-
-static int same_month(iolwarch_month a, iolwarch_month b)
-{
-    return memcmp(&a, &b, sizeof a) == 0;
 }
 
 /* What a refused settle answers beside its number: the month as it came, and zeros. */
@@ -234,38 +234,50 @@ static void refusals(void)
     check(memcmp(&l, &before, sizeof l) == 0, "19: every list as it was");
 }
 
+/* A month of one plant and one period. */
+typedef struct {
+    iolwarch_plant plant;
+    uint64_t profile[1];
+    uint64_t allotted[4];
+    int64_t accounts[2];
+} single;
+
+static iolwarch_end open_single(single *s)
+{
+    const iolwarch_month blank = {0, 0, 0, 0, 0};
+    return iolwarch_open(blank, &s->plant, 1, s->profile, 1, 7, s->allotted, 4, s->accounts, 2);
+}
+
 /* Each field of a plant record in its own place. Of 11 kWh, 970,000 and 900,000 millionths leave 10 and then 9; in the
  * other order 9 and then 8. */
 static void plant_fields(void)
 {
-    iolwarch_plant plant = {
-        .submarket = 3, .number = 999999, .guarantee = 11, .loss = 970000, .availability = 900000};
-    const iolwarch_month blank = {0, 0, 0, 0, 0};
-    const uint64_t profile[1] = {20};
+    single s = {{.submarket = 3, .number = 999999, .guarantee = 11, .loss = 970000, .availability = 900000},
+                {20},
+                {1, 1, 1, 1},
+                {1, 1}};
     const uint64_t wanted[4] = {0, 0, 20, 0};
     uint64_t allotment[4] = {0, 0, 0, 0};
-    uint64_t allotted[4] = {1, 1, 1, 1};
-    int64_t accounts[2] = {1, 1};
-    iolwarch_end end = iolwarch_open(blank, &plant, 1, profile, 1, 7, allotted, 4, accounts, 2);
-    iolwarch_settled answer =
-        iolwarch_settle(end.month, &plant, 1, profile, 1, profile, 1, allotment, 4, allotted, 4, accounts, 2);
+    iolwarch_end end = open_single(&s);
+    iolwarch_settled answer = iolwarch_settle(end.month, &s.plant, 1, s.profile, 1, s.profile, 1, allotment, 4,
+                                              s.allotted, 4, s.accounts, 2);
     check(end.number == 0 && answer.number == 0, "one plant");
     check(answer.guarantees == 9 && answer.secondary == 11, "loss before availability");
     check(memcmp(allotment, wanted, sizeof wanted) == 0, "all in submarket 3");
-    plant.submarket = 5;
-    check(iolwarch_open(blank, &plant, 1, profile, 1, 7, allotted, 4, accounts, 2).number == 5, "submarket");
-    plant.submarket = 4;
-    plant.number = 1000000;
-    check(iolwarch_open(blank, &plant, 1, profile, 1, 7, allotted, 4, accounts, 2).number == 6, "number");
-    plant.number = 1;
-    plant.guarantee = UINT64_C(1000000000001);
-    check(iolwarch_open(blank, &plant, 1, profile, 1, 7, allotted, 4, accounts, 2).number == 7, "guarantee");
-    plant.guarantee = 0;
-    plant.loss = 1000001;
-    check(iolwarch_open(blank, &plant, 1, profile, 1, 7, allotted, 4, accounts, 2).number == 8, "loss");
-    plant.loss = 0;
-    plant.availability = 1000001;
-    check(iolwarch_open(blank, &plant, 1, profile, 1, 7, allotted, 4, accounts, 2).number == 8, "availability");
+    s.plant.submarket = 5;
+    check(open_single(&s).number == 5, "submarket");
+    s.plant.submarket = 4;
+    s.plant.number = 1000000;
+    check(open_single(&s).number == 6, "number");
+    s.plant.number = 1;
+    s.plant.guarantee = UINT64_C(1000000000001);
+    check(open_single(&s).number == 7, "guarantee");
+    s.plant.guarantee = 0;
+    s.plant.loss = 1000001;
+    check(open_single(&s).number == 8, "loss");
+    s.plant.loss = 0;
+    s.plant.availability = 1000001;
+    check(open_single(&s).number == 8, "availability");
 }
 
 /* m1, the example file: opened, settled, balanced, closed; then m2, opened over the closed month and settled. */
@@ -370,13 +382,15 @@ static void unstated(const char *what, const lists *l, iolwarch_month month, siz
     states(what, l, month, rows, number, "");
 }
 
+/* The statement of document 01's example month. */
+static const char example_text[] = "A,1,10,85,0,0,0,45,58500\n"
+                                   "A,1,11,43,0,0,0,-23,-29900\n"
+                                   "A,2,20,22,30,0,0,-22,-28600\n"
+                                   "T,1,3,150,30,0,0,180\n";
+
 /* The example month's statement: opened, settled and closed; a byte too few; and refused, whatever is asked first. */
 static void statements(void)
 {
-    static const char text[] = "A,1,10,85,0,0,0,45,58500\n"
-                               "A,1,11,43,0,0,0,-23,-29900\n"
-                               "A,2,20,22,30,0,0,-22,-28600\n"
-                               "T,1,3,150,30,0,0,180\n";
     static iolwarch_plant many[MANY];
     lists l = example();
     iolwarch_month month = open_rows(&l, (iolwarch_month){0, 0, 0, 0, 0}, ROWS).month;
@@ -386,9 +400,9 @@ static void statements(void)
     written("no period settled", &l, month,
             "A,1,10,0,0,0,0,0,0\nA,1,11,0,0,0,0,0,0\nA,2,20,0,0,0,0,0,0\nT,0,3,0,0,0,0,0\n");
     month = settle(&l, month).month;
-    written("statement before close", &l, month, text);
+    written("statement before close", &l, month, example_text);
     month = iolwarch_close(month).month;
-    written("statement after close", &l, month, text);
+    written("statement after close", &l, month, example_text);
 
     memset(bytes, 'x', sizeof bytes);
     memset(wanted, 'x', sizeof wanted);
@@ -539,12 +553,10 @@ static void files(void)
 {
     static const char file[] = "MRE,1,1,3,1300\nP,1,10,100,1000000,1000000\nP,1,11,50,1000000,1000000\n"
                                "P,2,20,60,1000000,1000000\nH,1,180\nG,1,130,20,30\n";
-    static const char text[] = "A,1,10,85,0,0,0,45,58500\nA,1,11,43,0,0,0,-23,-29900\nA,2,20,22,30,0,0,-22,-28600\n"
-                               "T,1,3,150,30,0,0,180\n";
     int list;
-    printed("file in one piece", file, sizeof file - 1, text);
-    printed("file in pieces of 7", file, 7, text);
-    printed("file byte by byte", file, 1, text);
+    printed("file in one piece", file, sizeof file - 1, example_text);
+    printed("file in pieces of 7", file, 7, example_text);
+    printed("file byte by byte", file, 1, example_text);
     printed("no byte at all", "", 1, "R,1,31\n");
     printed("file without its last byte", "MRE,1,1,3,1300", 1, "R,1,31\n");
     printed("a plant number twice", "MRE,1,1,2,0\nP,1,10,0,0,0\nP,1,10,0,0,0\nH,1,1\nG,1,1,0\n", 5, "R,4,6\n");
@@ -555,10 +567,10 @@ static void files(void)
     iolwarch_workspace_begin(&work);
     work.file.count = 1;
     unknown("a first line that is counted already", 31);
-    printed("file in one piece", file, sizeof file - 1, text);
+    printed("file in one piece", file, sizeof file - 1, example_text);
     work.columns[2] = 5;
     unknown("a row changed between two feeds", 31);
-    printed("file in one piece", file, sizeof file - 1, text);
+    printed("file in one piece", file, sizeof file - 1, example_text);
     work.accounts[0] = INT64_MIN;
     unknown("a ledger changed between two feeds", 31);
     iolwarch_workspace_begin(&work);

@@ -6,7 +6,7 @@ use crate::count::Count;
 use crate::months::taken;
 use crate::program;
 use crate::random::Random;
-use crate::settle_month::{arrival, compare, worked};
+use crate::settle_month::{arrival, compare, worked, REFUSALS};
 
 /// The kinds of the second program whose files are damaged, and files of each.
 const BASES: [&str; 14] = [
@@ -80,7 +80,7 @@ pub fn run(count: &mut Count) {
     }
     count.reached("damaged files", 20_000);
     count.answered("settle-month", 0, 3_000);
-    for number in [2, 3, 4, 5, 6, 7, 8, 9, 10, 15, 16, 17, 26, 27, 28, 29, 31] {
+    for number in REFUSALS {
         count.answered("settle-month", number, 50);
     }
 }

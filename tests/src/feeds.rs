@@ -10,9 +10,8 @@ use crate::recorder::{self, Fed, File, Finished, Month};
 
 const SEED: u64 = 26_31;
 
-/// Files of each kind; a long one is fed once.
+/// Files of each kind.
 const FILES: u64 = 8;
-const LONG: usize = 200_000;
 
 /// The lengths that include/iolwarch.h asks for: the table's columns, profile, allotted, two of them by their place; and
 /// those of the other lists.
@@ -28,10 +27,8 @@ pub fn run(count: &mut Count) {
     let lists = Lists::new(&mut random);
     refused(count, &mut random, recorder::begin(), &lists);
     for kind in program::kinds("month-").into_iter().chain(program::kinds("file-")) {
-        let first = program::generated(1, &kind);
-        let seeds = if first.len() < LONG { FILES } else { 1 };
-        part_way(count, &mut random, &first);
-        for seed in 1..=seeds {
+        part_way(count, &mut random, &program::generated(1, &kind));
+        for seed in program::seeds(&kind, FILES) {
             whole(count, &mut random, &kind, seed);
         }
     }
@@ -60,10 +57,10 @@ impl Lists {
         let more = random.pick(&[0, 0, 1, 300]);
         let any = random.next();
         Lists {
-            line: Lent::new(&vec![any as u8; LINE + more], 0xA5),
-            figures: FIGURES.map(|length| Lent::new(&vec![any; length + more], 0xA5)),
-            accounts: Lent::new(&vec![any as i64; ACCOUNTS + more], 0xA5),
-            text: Lent::new(&vec![any as u8; TEXT + more], 0xA5),
+            line: Lent::new(&vec![any as u8; LINE + more]),
+            figures: FIGURES.map(|length| Lent::new(&vec![any; length + more])),
+            accounts: Lent::new(&vec![any as i64; ACCOUNTS + more]),
+            text: Lent::new(&vec![any as u8; TEXT + more]),
         }
     }
 
@@ -92,7 +89,7 @@ fn fed(count: &mut Count, random: &mut Random, lists: &mut Lists, bytes: &[u8], 
     let mut rest = bytes;
     while !rest.is_empty() {
         let (part, more) = rest.split_at((random.between(0, longest) as usize).min(rest.len()));
-        let mut lent = Lent::new(part, 0xA5);
+        let mut lent = Lent::new(part);
         let answer = lists.feed(file, lent.list());
         if answer.number != 0 || !lent.untouched(part) {
             return Err(format!("a feed of {:?} answered {:?}", file, answer));
@@ -109,7 +106,7 @@ fn whole(count: &mut Count, random: &mut Random, kind: &str, seed: u64) {
     let bytes = program::generated(seed, kind);
     let wanted = program::month(&bytes);
     let mut lists = Lists::new(random);
-    let longest = if bytes.len() < LONG { random.pick(&[1, 9, 200, 9_000]) } else { 60_000 };
+    let longest = if bytes.len() < program::LONG { random.pick(&[1, 9, 200, 9_000]) } else { 60_000 };
     let printed = fed(count, random, &mut lists, &bytes, longest).and_then(|file| {
         let mut kept = lists.clone();
         let answer = lists.finish(file);

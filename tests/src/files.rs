@@ -4,6 +4,7 @@
 use crate::count::Count;
 use crate::program;
 use crate::recorder::{self, Month, Plant};
+use crate::worked::{PAPER, STATEMENT};
 
 /// The month files of examples/ that are settled, with their statements.
 const EXAMPLES: [(&str, &[u8], &str); 3] = [
@@ -12,18 +13,20 @@ const EXAMPLES: [(&str, &[u8], &str); 3] = [
     ("secondary", include_bytes!("../../examples/secondary.mre"), include_str!("../../examples/secondary.statement")),
 ];
 
-/// Files of each kind; the largest, 512 plants over 744 periods, is settled once.
+/// Files of each kind.
 const FILES: u64 = 25;
 
 pub fn run(count: &mut Count) {
+    let paper = EXAMPLES[0].1 == PAPER.as_bytes() && EXAMPLES[0].2 == STATEMENT;
+    count.case(paper, || "examples/month is not the paper's example".to_string());
+    count.tried("the paper's example, as examples/ has it");
     for (name, file, wanted) in EXAMPLES {
         let ours = settled(count, file);
         count.case(ours.as_deref() == Ok(wanted), || format!("examples/{}: {:?}, wanted {}", name, ours, wanted));
         count.tried("month files of examples/ settled");
     }
     for kind in program::kinds("month-") {
-        let seeds = if program::generated(1, &kind).len() < 200_000 { FILES } else { 1 };
-        for seed in 1..=seeds {
+        for seed in program::seeds(&kind, FILES) {
             let file = program::generated(seed, &kind);
             let wanted = program::month(&file);
             let ours = settled(count, &file);
@@ -70,8 +73,7 @@ fn settled(count: &mut Count, file: &[u8]) -> Result<String, String> {
         profile.push(lines.next(3)?[1]);
     }
     let (mut allotment, mut allotted, mut accounts) = (vec![7; 4 * rows], vec![7; 4 * rows], vec![7; 2 * rows]);
-    let blank = Month { stage: 0, plants: 0, periods: 0, tariff: 0, due: 0 };
-    let end = recorder::open(blank, &plants, &profile, tariff, &mut allotted, &mut accounts);
+    let end = recorder::open(Month::BLANK, &plants, &profile, tariff, &mut allotted, &mut accounts);
     accepted("open", end.number)?;
     let mut month = end.month;
     for _ in 0..periods {

@@ -1,13 +1,48 @@
 //! A list that is lent to a call lies between two known figures, which must stay: a write outside the list is seen.
 
+use crate::recorder::Plant;
+
+/// What stands around a lent list, by the type of its figures.
+pub trait Around: Copy + PartialEq {
+    const AROUND: Self;
+}
+
+impl Around for u64 {
+    const AROUND: u64 = 0xA5A5_A5A5_A5A5_A5A5;
+}
+
+impl Around for i64 {
+    const AROUND: i64 = -0x5A5A_5A5A_5A5A_5A5A;
+}
+
+/// A digit, which a figure of the list would take in.
+impl Around for u8 {
+    const AROUND: u8 = b'7';
+}
+
+impl Around for Plant {
+    const AROUND: Plant = Plant {
+        submarket: u64::AROUND,
+        number: u64::AROUND,
+        guarantee: u64::AROUND,
+        loss: u64::AROUND,
+        availability: u64::AROUND,
+    };
+}
+
 #[derive(Clone, PartialEq)]
 pub struct Lent<T> {
     all: Vec<T>,
     around: T,
 }
 
-impl<T: Copy + PartialEq> Lent<T> {
-    pub fn new(list: &[T], around: T) -> Lent<T> {
+impl<T: Around> Lent<T> {
+    pub fn new(list: &[T]) -> Lent<T> {
+        Lent::between(list, T::AROUND)
+    }
+
+    /// With another figure around it.
+    pub fn between(list: &[T], around: T) -> Lent<T> {
         let mut all = vec![around];
         all.extend_from_slice(list);
         all.push(around);

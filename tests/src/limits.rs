@@ -15,7 +15,7 @@ const MONEY: i64 = 14_880_000_000_000_000;
 const HIGH: u64 = 1 << 32;
 
 /// The questions of each call, in the order in which 01 puts them.
-const ORDER: [(&str, &[u64]); 6] = [
+pub const ORDER: [(&str, &[u64]); 6] = [
     ("open", &[1, 2, 3, 4, 5, 6, 7, 8, 9, 10, 11]),
     ("settle", &[12, 2, 3, 4, 13, 5, 6, 7, 8, 9, 10, 11, 14, 15, 16, 17, 18, 19]),
     ("balance", &[21, 2, 11, 19]),

@@ -3,15 +3,13 @@
 
 use crate::count::Count;
 use crate::lent::Lent;
-use crate::program;
+use crate::program::{self, STAGE};
 use crate::random::Random;
 use crate::recorder;
-use second::Stage;
 
 const GENERATED: u64 = 100_000;
 const SEED: u64 = 26_30;
 const LONGEST: usize = 8_192;
-const AROUND: u64 = 0xA5A5_A5A5_A5A5_A5A5;
 
 /// Files whose lines are read, of each kind month-* and of each kind file-*.
 const FILES: [(&str, u64); 2] = [("month-", 20), ("file-", 5)];
@@ -37,11 +35,11 @@ pub fn run(count: &mut Count) {
 /// One reading of ours and one of the second program, with `before` lent.
 fn read(count: &mut Count, line: &[u8], before: &[u64]) -> u64 {
     let mut theirs = before.to_vec();
-    let (number, start, fields) = second::read_line(Stage(0), line, &mut theirs);
+    let (number, start, fields) = second::read_line(STAGE, line, &mut theirs);
     let wanted = recorder::Line { number: number as u64, start: start.map_or(0, |s| s.code()), fields };
 
-    let mut lent_line = Lent::new(line, b'7');
-    let mut lent = Lent::new(before, AROUND);
+    let mut lent_line = Lent::new(line);
+    let mut lent = Lent::new(before);
     let answer = recorder::read_line(lent_line.list(), lent.list());
     let (ours, kept) = lent.back();
 
@@ -60,7 +58,7 @@ fn field(count: &mut Count, line: &[u8], index: u64) -> u64 {
     let (number, part) = second::field_call(line, index);
     let start = if number == 0 { part.as_ptr() as u64 - line.as_ptr() as u64 } else { 0 };
     let wanted = recorder::FieldPlace { number: number as u64, start, length: part.len() as u64 };
-    let mut read = Lent::new(line, b',');
+    let mut read = Lent::between(line, b',');
     let answer = recorder::field(read.list(), index);
     count.case(answer == wanted && read.untouched(line), || {
         format!("{}, field {}: {:?}, wanted {:?}", shown(line), index, answer, wanted)
@@ -376,9 +374,7 @@ fn field_limits(count: &mut Count) {
 fn files(count: &mut Count) {
     for (family, files) in FILES {
         for kind in program::kinds(family) {
-            // The largest shapes are read once: their lines are alike.
-            let seeds = if program::generated(1, &kind).len() < 200_000 { files } else { 1 };
-            for seed in 1..=seeds {
+            for seed in program::seeds(&kind, files) {
                 let file = program::generated(seed, &kind);
                 for line in file.split(|&b| b == b'\n') {
                     read(count, line, &figures(513));

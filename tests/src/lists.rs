@@ -66,7 +66,7 @@ fn begun(random: &mut Random) -> Given {
     } as usize;
     let plants = plants(random, rows);
     Given {
-        month: Month { stage: 0, plants: 0, periods: 0, tariff: 0, due: 0 },
+        month: Month::BLANK,
         profile: profile(random, &plants),
         plants,
         tariff: 0,

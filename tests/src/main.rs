@@ -1,7 +1,8 @@
 //! The recorder, called through its C interface, and the program `settle-month`, compared with the second program.
 //!
 //!   compare                every part
-//!   compare WORD ..        the named parts; `recorder` and `program` stand for all parts of the one and of the other
+//!   compare WORD ..        the named parts; `recorder` and `program` stand for all parts of the one and of the other;
+//!                          `c_scripts` needs tests/c/scripts.c, built beside this program
 //!
 //! Each part prints how many cases it tried and of which kind. The last line is 'N passed, M failed'; the exit status
 //! is 0 only if nothing failed and something was tried.
@@ -58,6 +59,9 @@ fn main() {
     }
     for (name, run) in PROGRAM.into_iter().filter(|(name, _)| asked("program") || asked(name)) {
         count.part(name, run);
+    }
+    if asked("c_scripts") {
+        count.part("c_scripts", script::run_by_c);
     }
     std::process::exit(if count.finish() { 0 } else { 1 });
 }

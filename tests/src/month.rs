@@ -3,37 +3,16 @@
 
 use crate::count::Count;
 use crate::lent::Lent;
+use crate::program::STAGE;
 use crate::recorder::{End, Hour, Month, Plant, Stated, Sums, Table};
-use crate::{lists, program, recorder, script};
-use second::{Desk, Rule, Stage, State};
-
-/// The kinds of scripts with a month, with how many seeds of each are run; those of limits and of the paper have none.
-const KINDS: [(&str, u64); 5] =
-    [("calls-random", 1_500), ("calls-hours", 500), ("calls-limits", 1), ("calls-big", 12), ("calls-paper", 1)];
-
-/// What stands around a lent list.
-const KWH: u64 = 0xA5A5_A5A5_A5A5_A5A5;
-const SIGNED: i64 = -0x5A5A_5A5A_5A5A_5A5A;
-const PLANT: Plant = Plant { submarket: KWH, number: KWH, guarantee: KWH, loss: KWH, availability: KWH };
+use crate::{limits, lists, recorder, script};
+use second::{Desk, Rule, State};
 
 pub fn run(count: &mut Count) {
-    for (kind, seeds) in KINDS {
-        script::kind(count, kind, seeds);
-    }
-    for kind in program::kinds("calls-") {
-        let run = KINDS.iter().chain(&script::KINDS).any(|(name, _)| *name == kind);
-        count.case(run, || format!("no script of {} is run", kind));
-    }
+    script::run_on_a_month(count);
     lists::run(count);
-    for (call, numbers) in [
-        ("open", &[0, 1, 2, 3, 4, 5, 6, 7, 8, 9, 10, 11][..]),
-        ("settle", &[0, 12, 2, 3, 4, 13, 5, 6, 7, 8, 9, 10, 11, 14, 15, 16, 17, 18, 19]),
-        ("balance", &[0, 21, 2, 11, 19]),
-        ("close", &[0, 12, 3, 20]),
-        ("statement", &[0, 21, 2, 3, 13, 14, 5, 6, 7, 8, 11, 19, 22]),
-        ("size", &[0, 21, 2, 3, 13, 14, 5, 6, 7, 8, 11, 19]),
-    ] {
-        for &number in numbers {
+    for (call, questions) in limits::ORDER {
+        for &number in [0].iter().chain(questions) {
             count.answered(call, number, 100);
         }
     }
@@ -79,11 +58,11 @@ pub fn compare(count: &mut Count, call: &'static str, at: &mut Given) -> u64 {
 fn open(at: &mut Given) -> (u64, bool) {
     let mut ledger = their_ledger(at);
     let (month, number) =
-        Desk::new(Stage(0)).open(their_month(at), &their_plants(at), &at.profile, &[], at.tariff, 1, 1, &mut ledger);
+        Desk::new(STAGE).open(their_month(at), &their_plants(at), &at.profile, &[], at.tariff, 1, 1, &mut ledger);
     let wanted = End { number: number as u64, month: month_after(number, at.month, month) };
 
-    let (mut plants, mut profile) = (Lent::new(&at.plants, PLANT), Lent::new(&at.profile, KWH));
-    let (mut allotted, mut accounts) = (Lent::new(&at.allotted, KWH), Lent::new(&at.accounts, SIGNED));
+    let (mut plants, mut profile) = (Lent::new(&at.plants), Lent::new(&at.profile));
+    let (mut allotted, mut accounts) = (Lent::new(&at.allotted), Lent::new(&at.accounts));
     let answer = recorder::open(at.month, plants.list(), profile.list(), at.tariff, allotted.list(), accounts.list());
     let read = plants.untouched(&at.plants) && profile.untouched(&at.profile);
     let kept = at.take_back(answer.month, allotted, accounts);
@@ -94,7 +73,7 @@ fn settle(count: &mut Count, at: &mut Given) -> (u64, bool) {
     let before = at.clone();
     let mut ledger = their_ledger(at);
     let mut theirs = at.allotment.clone();
-    let (month, number, hour) = Desk::new(Stage(0)).settle(
+    let (month, number, hour) = Desk::new(STAGE).settle(
         their_month(at),
         &their_plants(at),
         &at.profile,
@@ -123,9 +102,9 @@ fn settle(count: &mut Count, at: &mut Given) -> (u64, bool) {
 
 /// Ours alone. False if it wrote to a list that it only reads, or outside a list.
 fn our_settle(at: &mut Given) -> (Hour, bool) {
-    let (mut plants, mut profile) = (Lent::new(&at.plants, PLANT), Lent::new(&at.profile, KWH));
-    let (mut metered, mut allotment) = (Lent::new(&at.metered, KWH), Lent::new(&at.allotment, KWH));
-    let (mut allotted, mut accounts) = (Lent::new(&at.allotted, KWH), Lent::new(&at.accounts, SIGNED));
+    let (mut plants, mut profile) = (Lent::new(&at.plants), Lent::new(&at.profile));
+    let (mut metered, mut allotment) = (Lent::new(&at.metered), Lent::new(&at.allotment));
+    let (mut allotted, mut accounts) = (Lent::new(&at.allotted), Lent::new(&at.accounts));
     let answer = recorder::settle(
         at.month,
         plants.list(),
@@ -195,7 +174,7 @@ fn is_lawful(before: &Given, after: &Given, answer: &Hour) -> bool {
 }
 
 fn balance(at: &mut Given) -> (u64, bool) {
-    let (_, number, sums) = Desk::new(Stage(0)).balance(their_month(at), &their_ledger(at));
+    let (_, number, sums) = Desk::new(STAGE).balance(their_month(at), &their_ledger(at));
     let wanted = Sums {
         number: number as u64,
         month: at.month,
@@ -203,7 +182,7 @@ fn balance(at: &mut Given) -> (u64, bool) {
         net: sums.net,
         money: sums.money,
     };
-    let (mut allotted, mut accounts) = (Lent::new(&at.allotted, KWH), Lent::new(&at.accounts, SIGNED));
+    let (mut allotted, mut accounts) = (Lent::new(&at.allotted), Lent::new(&at.accounts));
     let answer = recorder::balance(at.month, allotted.list(), accounts.list());
     let read = allotted.untouched(&at.allotted) && accounts.untouched(&at.accounts);
     at.month = answer.month;
@@ -211,7 +190,7 @@ fn balance(at: &mut Given) -> (u64, bool) {
 }
 
 fn close(at: &mut Given) -> (u64, bool) {
-    let (month, number) = Desk::new(Stage(0)).close(their_month(at));
+    let (month, number) = Desk::new(STAGE).close(their_month(at));
     let wanted = End { number: number as u64, month: month_after(number, at.month, month) };
     let answer = recorder::close(at.month);
     at.month = answer.month;
@@ -222,12 +201,12 @@ fn close(at: &mut Given) -> (u64, bool) {
 fn statement(at: &mut Given) -> (u64, bool) {
     let mut theirs = at.bytes.clone();
     let (_, number, length) =
-        Desk::new(Stage(0)).statement(their_month(at), &their_plants(at), &[], &their_ledger(at), &mut theirs);
+        Desk::new(STAGE).statement(their_month(at), &their_plants(at), &[], &their_ledger(at), &mut theirs);
     let wanted = Stated { number: number as u64, month: at.month, length };
 
-    let mut plants = Lent::new(&at.plants, PLANT);
-    let (mut allotted, mut accounts) = (Lent::new(&at.allotted, KWH), Lent::new(&at.accounts, SIGNED));
-    let mut bytes = Lent::new(&at.bytes, b'7');
+    let mut plants = Lent::new(&at.plants);
+    let (mut allotted, mut accounts) = (Lent::new(&at.allotted), Lent::new(&at.accounts));
+    let mut bytes = Lent::new(&at.bytes);
     let answer = recorder::statement(at.month, plants.list(), allotted.list(), accounts.list(), bytes.list());
     let read = plants.untouched(&at.plants) && allotted.untouched(&at.allotted) && accounts.untouched(&at.accounts);
     let (ours, kept) = bytes.back();
@@ -240,10 +219,9 @@ fn statement(at: &mut Given) -> (u64, bool) {
 
 /// 01: the answer is free between the bytes that the statement writes and 128P + 128.
 fn size(at: &mut Given) -> (u64, bool) {
-    let (_, number, limit, written) =
-        Desk::new(Stage(0)).size(their_month(at), &their_plants(at), &[], &their_ledger(at));
-    let mut plants = Lent::new(&at.plants, PLANT);
-    let (mut allotted, mut accounts) = (Lent::new(&at.allotted, KWH), Lent::new(&at.accounts, SIGNED));
+    let (_, number, limit, written) = Desk::new(STAGE).size(their_month(at), &their_plants(at), &[], &their_ledger(at));
+    let mut plants = Lent::new(&at.plants);
+    let (mut allotted, mut accounts) = (Lent::new(&at.allotted), Lent::new(&at.accounts));
     let answer = recorder::size(at.month, plants.list(), allotted.list(), accounts.list());
     let read = plants.untouched(&at.plants) && allotted.untouched(&at.allotted) && accounts.untouched(&at.accounts);
     let free = written <= answer.size && answer.size <= limit;

@@ -3,13 +3,8 @@
 
 use crate::count::Count;
 use crate::program;
-use crate::settle_month::{arrival, compare, kept, printed, root, worked, Arrival, Outcome};
-
-/// The example of 01, 'The file and its statement', with what it must print.
-const PAPER: &str = "MRE,1,1,3,1300\nP,1,10,100,1000000,1000000\nP,1,11,50,1000000,1000000\n\
-                     P,2,20,60,1000000,1000000\nH,1,180\nG,1,130,20,30\n";
-const STATEMENT: &str = "A,1,10,85,0,0,0,45,58500\nA,1,11,43,0,0,0,-23,-29900\nA,2,20,22,30,0,0,-22,-28600\n\
-                         T,1,3,150,30,0,0,180\n";
+use crate::settle_month::{arrival, compare, kept, printed, root, said, worked, Arrival, Outcome, REFUSALS};
+use crate::worked::{PAPER, STATEMENT};
 
 /// Files of each kind, of the statements' kinds and of the others.
 const MONTHS: u64 = 60;
@@ -70,26 +65,17 @@ const CHANGES: [(&str, &str, &str); 40] = [
 
 pub fn run(count: &mut Count) {
     for case in 0..12 {
-        said(count, PAPER, STATEMENT, arrival(case));
+        said(count, "the paper's example", PAPER.as_bytes(), STATEMENT, arrival(case));
         count.tried("the paper's example");
     }
     for (file, wanted) in spoken() {
         for case in 0..6 {
-            said(count, &file, wanted, arrival(case));
+            said(count, &format!("{:?}", file), file.as_bytes(), wanted, arrival(case));
         }
         count.tried("files of one change to the paper's example, with 01's answer");
     }
     examples(count);
     generated(count);
-}
-
-/// A file with what 01 says that it prints.
-fn said(count: &mut Count, file: &str, wanted: &str, arrival: Arrival) {
-    let ours = printed(file.as_bytes(), arrival).map(|bytes| bytes.escape_ascii().to_string());
-    let wanted = wanted.as_bytes().escape_ascii().to_string();
-    count.case(ours.as_ref() == Ok(&wanted), || {
-        format!("{:?}, arriving as {:?}: {:?}, wanted {}", file, arrival, ours, wanted)
-    });
 }
 
 /// The changed files, and files of a line at its limits, each with what 01 has it print.
@@ -148,7 +134,8 @@ fn generated(count: &mut Count) {
     for arrival in [Arrival::Stored, Arrival::Whole, Arrival::Pieces(4096), Arrival::Pieces(7), Arrival::Mixed(1)] {
         taken(count, FULL.to_string(), compare(FULL, &full, arrival));
     }
-    for number in [0, 2, 3, 4, 5, 6, 7, 8, 9, 10, 15, 16, 17, 26, 27, 28, 29, 31] {
+    count.answered("settle-month", 0, FILES);
+    for number in REFUSALS {
         count.answered("settle-month", number, FILES);
     }
 }

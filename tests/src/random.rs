@@ -32,12 +32,18 @@ impl Random {
         self.between(1, 100) <= percent
     }
 
-    /// A figure of at most `bits` bits, each number of bits equally likely.
-    pub fn sized(&mut self, bits: u64) -> u64 {
-        match self.between(0, bits) {
+    /// Any figure of at most `bits` bits.
+    pub fn of_bits(&mut self, bits: u64) -> u64 {
+        match bits {
             0 => 0,
             n => self.next() >> (64 - n),
         }
+    }
+
+    /// A figure of at most `bits` bits, each number of bits equally likely.
+    pub fn sized(&mut self, bits: u64) -> u64 {
+        let bits = self.between(0, bits);
+        self.of_bits(bits)
     }
 
     pub fn pick<T: Copy>(&mut self, list: &[T]) -> T {

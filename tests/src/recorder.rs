@@ -37,6 +37,11 @@ pub struct Month {
     pub due: u64,
 }
 
+impl Month {
+    /// Before the first open.
+    pub const BLANK: Month = Month { stage: 0, plants: 0, periods: 0, tariff: 0, due: 0 };
+}
+
 /// The answer of open and of close.
 #[repr(C)]
 #[derive(Clone, Copy, PartialEq, Eq, Debug)]

@@ -1,7 +1,8 @@
 //! Scripts of calls, as the second program generates them (kinds calls-*; the language is described at the head of
-//! second/script.rs). Each script is run here over the recorder and there by the second program, and what the two
-//! print is compared line by line: every answer, after each call the month and every list that it could write, and the
-//! month and ledger at the end. What stands around a list, and a list that a call only reads, must stay.
+//! second/script.rs). Each script is run over the recorder, by `Bench` here or by tests/c/scripts.c as a process, and
+//! by the second program, and what the two print is compared line by line: every answer, with the number that the
+//! script expects, after each call the month and every list that it could write, and the month and ledger at the end.
+//! What stands around a list, and a list that a call only reads, must stay.
 
 use crate::count::Count;
 use crate::lent::Lent;
@@ -10,22 +11,40 @@ use crate::recorder::{self, Month, Plant};
 use std::collections::BTreeMap;
 use std::fmt::Write as _;
 
-/// The kinds of scripts without a month, with how many seeds of each are run. Those with a month are run in `month`.
-pub const KINDS: [(&str, u64); 3] = [("calls-share", 500), ("calls-transfer", 500), ("calls-lines", 2_000)];
+/// A kind of scripts, with how many seeds of it are run here, and how many by the C program. The scripts of limits and of
+/// the paper are the same for every seed.
+type Kind = (&'static str, u64, u64);
 
-/// The calls, each with what is shown after it.
-const CALLS: [(&str, &[&str]); 10] = [
-    ("open", &["month", "kwh", "signed"]),
-    ("settle", &["month", "kwh", "signed", "allot"]),
-    ("balance", &["month", "kwh", "signed"]),
-    ("close", &["month", "kwh", "signed"]),
-    ("statement", &["month", "kwh", "signed", "bytes"]),
-    ("size", &["month", "kwh", "signed"]),
-    ("share", &["parts"]),
-    ("transfer", &[]),
-    ("read", &["figures"]),
-    ("field", &[]),
+/// The kinds without a month, and those with one, which are run in `month`.
+const ALONE: [Kind; 3] = [("calls-share", 500, 20), ("calls-transfer", 500, 20), ("calls-lines", 2_000, 20)];
+const ON_A_MONTH: [Kind; 5] = [
+    ("calls-random", 1_500, 60),
+    ("calls-hours", 500, 30),
+    ("calls-limits", 1, 1),
+    ("calls-big", 12, 1),
+    ("calls-paper", 1, 1),
 ];
+
+/// The calls, each with what is shown after it, and with what it only reads.
+const CALLS: [(&str, &[&str], &[&str]); 10] = [
+    ("open", &["month", "kwh", "signed"], &["plants", "profile"]),
+    ("settle", &["month", "kwh", "signed", "allot"], &["plants", "profile", "metered"]),
+    ("balance", &["month", "kwh", "signed"], &[]),
+    ("close", &["month", "kwh", "signed"], &[]),
+    ("statement", &["month", "kwh", "signed", "bytes"], &["plants", "profile"]),
+    ("size", &["month", "kwh", "signed"], &["plants", "profile"]),
+    ("share", &["parts"], &["weights"]),
+    ("transfer", &[], &[]),
+    ("read", &["figures"], &["line"]),
+    ("field", &[], &["line"]),
+];
+
+/// Who runs a script over the recorder.
+#[derive(Clone, Copy, PartialEq)]
+enum By {
+    Bench,
+    C,
+}
 
 const UNSIGNED: [&str; 14] = [
     "plants", "profile", "levels", "metered", "allot", "kwh", "bytes", "line", "figures", "weights", "parts", "table",
@@ -33,61 +52,99 @@ const UNSIGNED: [&str; 14] = [
 ];
 const SIGNED: [&str; 2] = ["signed", "totals"];
 
-/// What stands around a list that is lent: a digit where the list is of bytes.
-const AROUND: u64 = 0xA5A5_A5A5_A5A5_A5A5;
-const SIGNED_AROUND: i64 = -0x5A5A_5A5A_5A5A_5A5A;
-const PLANT: Plant = Plant { submarket: AROUND, number: AROUND, guarantee: AROUND, loss: AROUND, availability: AROUND };
-const DIGIT: u8 = b'7';
-
 pub fn run(count: &mut Count) {
-    for (name, seeds) in KINDS {
-        kind(count, name, seeds);
+    for (name, seeds, _) in ALONE {
+        kind(count, name, seeds, By::Bench);
+    }
+}
+
+/// These, which are the last: no kind is left out.
+pub fn run_on_a_month(count: &mut Count) {
+    for (name, seeds, _) in ON_A_MONTH {
+        kind(count, name, seeds, By::Bench);
+    }
+    for kind in program::kinds("calls-") {
+        let run = ALONE.iter().chain(&ON_A_MONTH).any(|(name, ..)| *name == kind);
+        count.case(run, || format!("no script of {} is run", kind));
+    }
+}
+
+/// Both by the C program.
+pub fn run_by_c(count: &mut Count) {
+    for (name, _, seeds) in ALONE.into_iter().chain(ON_A_MONTH) {
+        kind(count, name, seeds, By::C);
     }
 }
 
 /// Runs the scripts of one kind.
-pub fn kind(count: &mut Count, kind: &str, seeds: u64) {
+fn kind(count: &mut Count, kind: &str, seeds: u64, by: By) {
     for seed in 1..=seeds {
-        let script = watched(&program::generated(seed, kind));
-        let theirs = program::calls(&script);
-        match Bench::new().play(&script) {
-            Ok(ours) => compare(count, kind, seed, &ours, &theirs),
-            Err(why) => count.case(false, || format!("{} seed {}: {}", kind, seed, why)),
+        let script = watched(&program::generated(seed, kind), by);
+        let label = format!("{} seed {}", kind, seed);
+        let ours = match by {
+            By::Bench => Bench::play(&script),
+            By::C => program::c_scripts(&script),
+        };
+        match ours {
+            Ok(ours) => compare(count, &label, &expected(&script), &ours, &program::calls(&script)),
+            Err(why) => count.case(false, || format!("{}: {}", label, why)),
         }
         count.tried(format!("scripts of {}", kind));
     }
 }
 
 /// The call that a line of a script, or of what it prints, begins with.
-fn call_of(line: &[u8]) -> Option<(&'static str, &'static [&'static str])> {
+fn call_of(line: &[u8]) -> Option<(&'static str, &'static [&'static str], &'static [&'static str])> {
     let word = line.split(|&b| b == b' ').next()?;
-    CALLS.iter().copied().find(|(call, _)| call.as_bytes() == word)
+    CALLS.iter().copied().find(|(call, ..)| call.as_bytes() == word)
 }
 
-/// The script, with what each call could write shown after it.
-fn watched(script: &[u8]) -> Vec<u8> {
+/// The script, with what each call could write shown after it. `Bench` itself holds what a call only reads; the C
+/// program takes it back too, so that it is shown.
+fn watched(script: &[u8], by: By) -> Vec<u8> {
     let mut out = Vec::new();
     for line in script.split_inclusive(|&b| b == b'\n') {
         out.extend_from_slice(line);
-        let (_, lists) = call_of(line.strip_suffix(b"\n").unwrap_or(line)).unwrap_or(("", &[]));
-        for list in lists {
+        let (_, written, read) = call_of(line.strip_suffix(b"\n").unwrap_or(line)).unwrap_or(("", &[], &[]));
+        for list in written.iter().chain(read.iter().filter(|_| by == By::C)) {
             out.extend_from_slice(format!("show {}\n", list).as_bytes());
         }
     }
     out
 }
 
-/// A line that both print alike is a case; so is a script whose outputs are as long.
-fn compare(count: &mut Count, kind: &str, seed: u64, ours: &str, theirs: &str) {
-    for (at, (our, their)) in ours.lines().zip(theirs.lines()).enumerate() {
-        count.case(alike(our, their), || format!("{} seed {}, line {}: {}, wanted {}", kind, seed, at + 1, our, their));
-        if let Some((call, _)) = call_of(our.as_bytes()) {
-            let number = our.split(' ').nth(1).and_then(|word| word.parse().ok());
-            count.called(call, number.expect("an answer begins with its number"));
+/// The number that each call of the script must answer, where a line `# expect` before it says one.
+fn expected(script: &[u8]) -> Vec<Option<u64>> {
+    let (mut numbers, mut next) = (Vec::new(), None);
+    for line in script.split(|&b| b == b'\n') {
+        if let Some(number) = line.strip_prefix(b"# expect ") {
+            next = Some(String::from_utf8_lossy(number).parse().expect("a number"));
+        } else if call_of(line).is_some() {
+            numbers.push(next.take());
         }
     }
+    numbers
+}
+
+/// A line that both print alike is a case; so is a script whose outputs are as long, with an answer for each call.
+fn compare(count: &mut Count, label: &str, expected: &[Option<u64>], ours: &str, theirs: &str) {
+    let mut answered = 0;
+    for (at, (our, their)) in ours.lines().zip(theirs.lines()).enumerate() {
+        let (mut good, mut wanted) = (alike(our, their), None);
+        if let Some((call, ..)) = call_of(our.as_bytes()) {
+            let number = our.split(' ').nth(1).and_then(|word| word.parse().ok());
+            let number = number.expect("an answer begins with its number");
+            wanted = expected.get(answered).copied().flatten();
+            good &= wanted.unwrap_or(number) == number;
+            answered += 1;
+            count.called(call, number);
+        }
+        count.case(good, || format!("{}, line {}: {}, wanted {}, expected {:?}", label, at + 1, our, their, wanted));
+    }
     let as_long = ours.lines().count() == theirs.lines().count();
-    count.case(as_long, || format!("{} seed {}: the outputs differ in length", kind, seed));
+    count.case(as_long && answered > 0 && answered == expected.len(), || {
+        format!("{}: {} calls answered of {}, or outputs of other lengths", label, answered, expected.len())
+    });
 }
 
 /// Equal, but for a size: 01 leaves its answer free between the bytes that the statement writes and 128P + 128, which
@@ -110,28 +167,27 @@ struct Bench {
     month: Month,
     unsigned: BTreeMap<&'static str, Vec<u64>>,
     signed: BTreeMap<&'static str, Vec<i64>>,
-    expected: Option<u64>,
     out: String,
 }
 
 impl Bench {
     fn new() -> Bench {
         Bench {
-            month: Month { stage: 0, plants: 0, periods: 0, tariff: 0, due: 0 },
+            month: Month::BLANK,
             unsigned: UNSIGNED.iter().map(|&name| (name, Vec::new())).collect(),
             signed: SIGNED.iter().map(|&name| (name, Vec::new())).collect(),
-            expected: None,
             out: String::new(),
         }
     }
 
     /// Runs a whole script; at its end the state is printed.
-    fn play(mut self, script: &[u8]) -> Result<String, String> {
+    fn play(script: &[u8]) -> Result<String, String> {
+        let mut bench = Bench::new();
         for (at, line) in script.split(|&b| b == b'\n').enumerate() {
-            self.line(line).map_err(|why| format!("script line {}: {}", at + 1, why))?;
+            bench.line(line).map_err(|why| format!("script line {}: {}", at + 1, why))?;
         }
-        self.show_state();
-        Ok(self.out)
+        bench.show_state();
+        Ok(bench.out)
     }
 
     fn line(&mut self, line: &[u8]) -> Result<(), String> {
@@ -143,10 +199,6 @@ impl Bench {
         let words: Vec<&str> = line.split(' ').filter(|w| !w.is_empty()).collect();
         match words[..] {
             [] => Ok(()),
-            ["#", "expect", number] => {
-                self.expected = Some(figure(number)?);
-                Ok(())
-            }
             [comment, ..] if comment.starts_with('#') => Ok(()),
             ["more", name, ref rest @ ..] => self.put(name, rest, false),
             ["fill", name, times, value] => self.put(name, &vec![value; figure(times)?], true),
@@ -231,7 +283,7 @@ impl Bench {
     // ---- calls
 
     fn lend(&self, name: &str) -> Lent<u64> {
-        Lent::new(&self.unsigned[name], AROUND)
+        Lent::new(&self.unsigned[name])
     }
 
     /// Takes back a list that the call only reads.
@@ -247,7 +299,7 @@ impl Bench {
     }
 
     fn lend_accounts(&self) -> Lent<i64> {
-        Lent::new(&self.signed["signed"], SIGNED_AROUND)
+        Lent::new(&self.signed["signed"])
     }
 
     /// Takes back what open or settle left.
@@ -259,13 +311,9 @@ impl Bench {
         stayed(kept, "signed")
     }
 
-    /// Prints an answer, and holds its number to what the script expects.
     fn answer(&mut self, call: &str, number: u64, rest: &str) -> Result<(), String> {
         let _ = writeln!(self.out, "{} {}{}", call, number, rest);
-        match self.expected.take() {
-            Some(wanted) if wanted != number => Err(format!("{} answered {}, expected {}", call, number, wanted)),
-            _ => Ok(()),
-        }
+        Ok(())
     }
 
     fn call(&mut self, call: &str, words: &[&str]) -> Result<(), String> {
@@ -301,7 +349,7 @@ impl Bench {
 
     fn open(&mut self, tariff: u64) -> Result<(), String> {
         let table = self.plants();
-        let (mut plants, mut profile) = (Lent::new(&table, PLANT), self.lend("profile"));
+        let (mut plants, mut profile) = (Lent::new(&table), self.lend("profile"));
         let (mut allotted, mut accounts) = (self.lend("kwh"), self.lend_accounts());
         let end = recorder::open(self.month, plants.list(), profile.list(), tariff, allotted.list(), accounts.list());
         stayed(plants.untouched(&table), "plants")?;
@@ -312,8 +360,7 @@ impl Bench {
 
     fn settle(&mut self) -> Result<(), String> {
         let table = self.plants();
-        let (mut plants, mut profile, mut metered) =
-            (Lent::new(&table, PLANT), self.lend("profile"), self.lend("metered"));
+        let (mut plants, mut profile, mut metered) = (Lent::new(&table), self.lend("profile"), self.lend("metered"));
         let (mut allotment, mut allotted, mut accounts) = (self.lend("allot"), self.lend("kwh"), self.lend_accounts());
         let hour = recorder::settle(
             self.month,
@@ -346,9 +393,9 @@ impl Bench {
 
     fn statement(&mut self) -> Result<(), String> {
         let table = self.plants();
-        let mut plants = Lent::new(&table, PLANT);
+        let mut plants = Lent::new(&table);
         let (mut allotted, mut accounts) = (self.lend("kwh"), self.lend_accounts());
-        let mut bytes = Lent::new(&self.bytes("bytes")?, DIGIT);
+        let mut bytes = Lent::new(&self.bytes("bytes")?);
         let stated = recorder::statement(self.month, plants.list(), allotted.list(), accounts.list(), bytes.list());
         stayed(plants.untouched(&table), "plants")?;
         self.read("kwh", allotted)?;
@@ -362,7 +409,7 @@ impl Bench {
 
     fn size(&mut self) -> Result<(), String> {
         let table = self.plants();
-        let mut plants = Lent::new(&table, PLANT);
+        let mut plants = Lent::new(&table);
         let (mut allotted, mut accounts) = (self.lend("kwh"), self.lend_accounts());
         let sized = recorder::size(self.month, plants.list(), allotted.list(), accounts.list());
         stayed(plants.untouched(&table), "plants")?;
@@ -374,7 +421,7 @@ impl Bench {
 
     fn read_line(&mut self) -> Result<(), String> {
         let bytes = self.bytes("line")?;
-        let (mut line, mut figures) = (Lent::new(&bytes, DIGIT), self.lend("figures"));
+        let (mut line, mut figures) = (Lent::new(&bytes), self.lend("figures"));
         let answer = recorder::read_line(line.list(), figures.list());
         stayed(line.untouched(&bytes), "line")?;
         self.written("figures", figures)?;
@@ -383,7 +430,7 @@ impl Bench {
 
     fn field(&mut self, index: u64) -> Result<(), String> {
         let bytes = self.bytes("line")?;
-        let mut line = Lent::new(&bytes, DIGIT);
+        let mut line = Lent::new(&bytes);
         let place = recorder::field(line.list(), index);
         stayed(line.untouched(&bytes), "line")?;
         let part = bytes.get(place.start as usize..).and_then(|rest| rest.get(..place.length as usize));

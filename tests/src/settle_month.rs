@@ -1,6 +1,5 @@
 //! `settle-month`, the built program, as a process: how its standard input arrives, and what it prints.
 
-use second::Stage;
 use std::fs::File;
 use std::io::{self, Read as _, Write as _};
 use std::os::fd::{FromRawFd as _, OwnedFd};
@@ -8,7 +7,12 @@ use std::path::{Path, PathBuf};
 use std::process::{Child, Command, Stdio};
 use std::sync::atomic::{AtomicU64, Ordering};
 
+use crate::count::Count;
+use crate::program::STAGE;
 use crate::random::Random;
+
+/// The numbers with which a file can be refused.
+pub const REFUSALS: [u64; 17] = [2, 3, 4, 5, 6, 7, 8, 9, 10, 15, 16, 17, 26, 27, 28, 29, 31];
 
 extern "C" {
     fn pipe2(ends: *mut i32, flags: i32) -> i32;
@@ -120,6 +124,15 @@ pub fn pipe(flags: i32) -> io::Result<(OwnedFd, OwnedFd)> {
     }
 }
 
+/// A file with what 01 says that it prints.
+pub fn said(count: &mut Count, what: &str, file: &[u8], wanted: &str, arrival: Arrival) {
+    let ours = printed(file, arrival).map(|bytes| bytes.escape_ascii().to_string());
+    let wanted = wanted.as_bytes().escape_ascii().to_string();
+    count.case(ours.as_ref() == Ok(&wanted), || {
+        format!("{}, arriving as {:?}: {:?}, wanted {}", what, arrival, ours, wanted)
+    });
+}
+
 /// One file put to both programs.
 pub struct Outcome {
     pub label: String,
@@ -131,7 +144,7 @@ pub struct Outcome {
 
 /// Puts a file to both programs: what they print is compared byte for byte.
 pub fn compare(label: &str, file: &[u8], arrival: Arrival) -> Outcome {
-    let theirs = second::settle_month(Stage(0), file);
+    let theirs = second::settle_month(STAGE, file);
     let wrong = match printed(file, arrival) {
         Ok(ours) if ours == theirs => None,
         Ok(ours) => Some(format!("{}, wanted {}", ours.escape_ascii(), theirs.escape_ascii())),

@@ -2,7 +2,7 @@
 //! with its neighbours.
 
 use crate::count::Count;
-use crate::lent::Lent;
+use crate::lent::{Around as _, Lent};
 use crate::random::Random;
 use crate::recorder;
 use second::Rule;
@@ -10,9 +10,6 @@ use second::Rule;
 const LIMIT: u64 = 1 << 62;
 const GENERATED: u64 = 250_000;
 const SEED: u64 = 24_25;
-
-/// A figure that stands around the lent list and must stay there.
-const AROUND: u64 = 0xA5A5_A5A5_A5A5_A5A5;
 
 pub fn run(count: &mut Count) {
     small(count);
@@ -28,8 +25,8 @@ fn compare(count: &mut Count, total: u64, weights: &[u64], before: &[u64]) -> u6
     let mut theirs = before.to_vec();
     let their_number = second::share_call(Rule::RunningTotal, total, weights, &mut theirs) as u64;
 
-    let mut read = Lent::new(weights, AROUND);
-    let mut lent = Lent::new(before, AROUND);
+    let mut read = Lent::new(weights);
+    let mut lent = Lent::new(before);
     let number = recorder::share(total, read.list(), lent.list());
     let (ours, kept) = lent.back();
 
@@ -59,7 +56,7 @@ fn small(count: &mut Count) {
         for code in 0..4u64.pow(n) {
             let weights: Vec<u64> = (0..n).map(|i| code >> (2 * i) & 3).collect();
             for total in 0..=8 {
-                compare(count, total, &weights, &vec![AROUND; n as usize]);
+                compare(count, total, &weights, &vec![u64::AROUND; n as usize]);
                 count.tried("small: every list of at most four weights 0 to 3, T 0 to 8");
             }
         }

@@ -3,7 +3,7 @@
 
 use crate::count::Count;
 use crate::program as second_program;
-use crate::settle_month::{kept, pipe, printed, program, root, Arrival};
+use crate::settle_month::{kept, pipe, program, root, said, Arrival};
 use std::fs::{File, OpenOptions};
 use std::io::{Read as _, Write as _};
 use std::os::fd::AsRawFd as _;
@@ -94,10 +94,8 @@ fn long(count: &mut Count) {
         ("empty lines", vec![b'\n'; LONG], "R,1,27\n"),
         ("empty lines after the last G", after, "R,7,27\n"),
     ] {
-        let ours = printed(&file, Arrival::Whole).map(|bytes| bytes.escape_ascii().to_string());
-        let wanted = wanted.as_bytes().escape_ascii().to_string();
-        count.case(ours.as_ref() == Ok(&wanted), || format!("{}: {:?}, wanted {}", what, ours, wanted));
-        count.tried(format!("{}, {} bytes: {}", what, file.len(), wanted));
+        said(count, what, &file, wanted, Arrival::Whole);
+        count.tried(format!("{}, {} bytes: {}", what, file.len(), wanted.trim_end()));
     }
 }
 
@@ -119,7 +117,7 @@ fn memory(count: &mut Count, full: &[u8]) {
     let mut printed = Vec::new();
     File::from(reader).read_to_end(&mut printed).expect("what it prints");
     let ended = child.wait().expect("it ends").success();
-    let right = size == 4096 && printed == second::settle_month(second::Stage(0), full);
+    let right = size == 4096 && printed == second::settle_month(second_program::STAGE, full);
     let (own, whole) = (kilobytes(&status, "RssAnon:"), kilobytes(&status, "VmHWM:"));
     count.case(ended && right && own > 0 && own <= OWN, || format!("memory: {} kB of its own, {} kB", own, whole));
     count.tried(format!(
@@ -150,8 +148,7 @@ fn kilobytes(status: &str, name: &str) -> u64 {
 fn speed(count: &mut Count, full: &[u8]) {
     let path = std::env::temp_dir().join(format!("settle_month.{}.full", std::process::id()));
     std::fs::write(&path, full).expect("a file in the folder for these");
-    let mut second = Command::new(root().join("target/tests/second"));
-    second.args(["month", "--stage", "0"]);
+    let mut second = second_program::command(&["month"]);
     let (mut ours, mut theirs) = (f64::MAX, f64::MAX);
     for _ in 0..9 {
         ours = ours.min(seconds(&mut program(), &path));

@@ -4,12 +4,11 @@
 use crate::count::Count;
 use crate::recorder::{self, End, Month, Plant, Stated, Sums, Table};
 
-/// The example's output, whole.
-const STATEMENT: &[u8] = b"A,1,10,85,0,0,0,45,58500
-A,1,11,43,0,0,0,-23,-29900
-A,2,20,22,30,0,0,-22,-28600
-T,1,3,150,30,0,0,180
-";
+/// The example of 01, 'The file and its statement', with what it must print.
+pub const PAPER: &str = "MRE,1,1,3,1300\nP,1,10,100,1000000,1000000\nP,1,11,50,1000000,1000000\n\
+                         P,2,20,60,1000000,1000000\nH,1,180\nG,1,130,20,30\n";
+pub const STATEMENT: &str = "A,1,10,85,0,0,0,45,58500\nA,1,11,43,0,0,0,-23,-29900\nA,2,20,22,30,0,0,-22,-28600\n\
+                             T,1,3,150,30,0,0,180\n";
 
 const NOTHING: [[u64; 4]; 4] = [[0; 4]; 4];
 
@@ -145,9 +144,8 @@ fn example(count: &mut Count) {
         count.tried("calls of 01's example month");
     };
 
-    let blank = Month { stage: 0, plants: 0, periods: 0, tariff: 0, due: 0 };
     let opened = Month { stage: 1, plants: 3, periods: 1, tariff: 1300, due: 1 };
-    let end = recorder::open(blank, &plants, &[180], 1300, &mut allotted, &mut accounts);
+    let end = recorder::open(Month::BLANK, &plants, &[180], 1300, &mut allotted, &mut accounts);
     step(end == End { number: 0, month: opened } && allotted == [0; 12] && accounts == [0; 6], "open");
 
     let settled = Month { due: 2, ..opened };
@@ -171,7 +169,7 @@ fn example(count: &mut Count) {
     let written = STATEMENT.len();
     let rest = bytes[written..].iter().all(|&b| b == b'.');
     step(stated == Stated { number: 0, month: closed, length: written as u64 }, "statement");
-    step(bytes.starts_with(STATEMENT) && rest, "the statement's bytes");
+    step(bytes.starts_with(STATEMENT.as_bytes()) && rest, "the statement's bytes");
     let sized = recorder::size(closed, &plants, &allotted, &accounts);
     let free = written as u64 <= sized.size && sized.size <= bytes.len() as u64;
     step(sized.number == 0 && sized.month == closed && free, "size");

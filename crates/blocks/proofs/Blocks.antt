@@ -7,7 +7,7 @@ use native.Mathlib.Nat.{suc-inj, add-zero, zero-add}
 use mathlib.Core.List.{List, [], _∷_, _++_, append-nil, append-assoc}
 use lib.Dec.{eqb}
 use lib.Seq.{drop-drop}
-use Rattle.lists.specs.Columns.{rowwise, _⊕_, joined, inside, within, at, totals}
+use Rattle.lists.specs.Columns.{rowwise, _⊕_, Below, joined, inside, within, at, totals}
 use Rattle.lists.specs.Lists.{sum}
 use Rattle.lists.proofs.Columns.{_!_, each, rowwise-append}
 use Rattle.lists.proofs.Sums.{sum-append, sum-zeros}
@@ -325,11 +325,9 @@ module _ {subs : List ℕ} (B : Blocks subs) (ws : List ℕ) (same : length ws �
   pub totals-rows : totals subs ws ≡ sum cut₁ ∷ sum cut₂ ∷ sum cut₃ ∷ sum cut₄ ∷ []
   totals-rows = ap₂ totals subs-are cuts ∙ totals-blocks cut₁ cut₂ cut₃ cut₄
 
-  pub portion-rows : {rule : Rule} (L : Lawful rule) (amounts : List ℕ)
-      → ((s : ℕ) → 1 ≤ s → s ≤ 4 → at s amounts 0 ≤ at s (totals subs ws) 0)
+  pub portion-rows : {rule : Rule} (L : Lawful rule) (amounts : List ℕ) → Below amounts (totals subs ws)
       → portion rule subs amounts ws ≡ rule (at 1 amounts 0) cut₁ ++ (rule (at 2 amounts 0) cut₂ ++ (rule (at 3 amounts 0) cut₃ ++ rule (at 4 amounts 0) cut₄))
   portion-rows {rule} L amounts fits =
       ap₂ (λ su w. portion rule su amounts w) subs-are cuts
       ∙ portion-blocks L amounts cut₁ cut₂ cut₃ cut₄
-      (rw totals-rows at (fits 1 (omega arith) (omega arith))) (rw totals-rows at (fits 2 (omega arith) (omega arith)))
-      (rw totals-rows at (fits 3 (omega arith) (omega arith))) (rw totals-rows at (fits 4 (omega arith) (omega arith)))
+      (rw totals-rows at (fits 0)) (rw totals-rows at (fits 1)) (rw totals-rows at (fits 2)) (rw totals-rows at (fits 3))

@@ -1,27 +1,21 @@
 -- A loop that gives rows their parts: the want of a row falls, and its figure in one column rises. Assumes nothing.
-use mathlib.Core.Path.{_≡_, refl, sym, ap, _∙_, subst, subst₂}
-use mathlib.Core.Bool.{Bool, true, false, cond}
-use mathlib.Core.Logic.{_⊎_, inl, inr, ⊎-elim}
+use mathlib.Core.Path.{_≡_, refl, sym, ap, _∙_, subst}
+use mathlib.Core.Bool.{cond}
+use mathlib.Core.Logic.{by-cases}
 use mathlib.Core.List.{List, []}
 use Prim.Native.Nat.{ℕ, _+_, _-_, _*_, _≤_, _<_}
 use native.Mathlib.Omega.{arith}
-use lib.Dec.{ltb, eqb}
+use native.Mathlib.Decide.{ℕ-discrete, decLt}
+use lib.Dec.{eqb}
 use lib.ListN.{length, getD, take, set, length-take, length-set, List·getD-eq-default}
-use lib.Seq.{take-all, length-take-le, getD-take, getD-set-same, getD-set-other, ext-getD}
-use borrow.Author.Tests.{ltb-true, ltb-false, eq-eqb, ne-eqb}
+use lib.Seq.{take-all, getD-take, getD-set-same, getD-set-other, ext-getD}
+use borrow.Author.Tests.{eq-eqb, ne-eqb}
 use borrow.Author.Needs.{needs}
 use mir.Syntax.{w64}
 use mir.Val.{Fits}
 use Rattle.lists.specs.Columns.{_⊖_, Below}
 use Rattle.lists.proofs.Columns.{_!_, at-⊖, cond-same, length-rowwise}
 use Rattle.blocks.specs.Blocks.{Raised, inColumn, Room}
-
-pub split : (k n : ℕ) → (k < n) ⊎ (n ≤ k)
-split k n = go (ltb k n) refl
-  where
-    go : (b : Bool) → ltb k n ≡ b → (k < n) ⊎ (n ≤ k)
-    go true e = inl (ltb-true k n e)
-    go false e = inr (ltb-false k n e)
 
 module _ {A : Type 0} (d : A) where
   -- past what was taken of a list there is nothing
@@ -33,16 +27,13 @@ module _ {A : Type 0} (d : A) where
   next-here l i = getD-take (i + 1) l i d (omega arith)
 
   pub next-there : (l : List A) (i k : ℕ) → (k ≡ i → ⊥) → getD (take (i + 1) l) k d ≡ getD (take i l) k d
-  next-there l i k ne = ⊎-elim below above (split k i)
+  next-there l i k ne = by-cases (decLt k i) below (λ h. above (omega arith))
     where
       below : k < i → getD (take (i + 1) l) k d ≡ getD (take i l) k d
       below h = getD-take (i + 1) l k d (omega arith) ∙ sym (getD-take i l k d h)
 
       above : i ≤ k → getD (take (i + 1) l) k d ≡ getD (take i l) k d
       above h = past-take (i + 1) l k (omega arith) ∙ sym (past-take i l k h)
-
-pub same-or-not : (k i : ℕ) → (k ≡ i) ⊎ (k ≡ i → ⊥)
-same-or-not k i = ⊎-elim (λ h. inr (λ e. omega arith)) (λ h. ⊎-elim (λ g. inr (λ e. omega arith)) (λ g. inl (omega arith)) (split i k)) (split k i)
 
 -- a row without a part raises no figure
 pub no-rise : (column : ℕ) (parts : List ℕ) (i j : ℕ) → parts ! i ≡ 0 → inColumn column parts i j ≡ 0
@@ -54,7 +45,7 @@ pub raised-set : (f h : ℕ → ℕ → ℕ) {before after : List ℕ} {at v : �
     → ((i j : ℕ) → j < 4 → (4 * i + j ≡ at → ⊥) → h i j ≡ f i j)
     → Raised h before (set after at v)
 raised-set f h {before} {after} {at} {v} x r inside is here there =
-    record { same = length-set after at v ∙ r .same; by = λ i j k. ⊎-elim (hit i j k) (miss i j k) (same-or-not (4 * i + j) at) }
+    record { same = length-set after at v ∙ r .same; by = λ i j k. by-cases (ℕ-discrete (4 * i + j) at) (hit i j k) (miss i j k) }
   where
     hit : (i j : ℕ) → j < 4 → 4 * i + j ≡ at → set after at v ! (4 * i + j) ≡ before ! (4 * i + j) + h i j
     hit i j k e =
@@ -91,7 +82,7 @@ module _ {column : ℕ} {part want₀ figures₀ : List ℕ} where
       record {
         turns = omega arith;
         same = length-set want i (want ! i - part ! i) ∙ k .same;
-        falls = λ m. ⊎-elim (hit m) (miss m) (same-or-not m i);
+        falls = λ m. by-cases (ℕ-discrete m i) (hit m) (miss m);
         rises =
             raised-set (inColumn column (take i part)) (inColumn column (take (i + 1) part)) (part ! i) (k .rises)
             (let e = k .rises .same in omega arith) refl on off;
@@ -112,7 +103,7 @@ module _ {column : ℕ} {part want₀ figures₀ : List ℕ} where
           rw (eq-eqb j column q, p) (let x = past-take 0 i part i (omega arith) in let y = next-here 0 part i in omega arith)
 
       off : (a j : ℕ) → j < 4 → (4 * a + j ≡ 4 * i + column → ⊥) → inColumn column (take (i + 1) part) a j ≡ inColumn column (take i part) a j
-      off a j l e = ⊎-elim other same-row (same-or-not j column)
+      off a j l e = by-cases (ℕ-discrete j column) other same-row
         where
           other : j ≡ column → inColumn column (take (i + 1) part) a j ≡ inColumn column (take i part) a j
           other q = ap (λ x. cond (eqb j column) x 0) (next-there 0 part i a (λ p. e (omega arith)))
@@ -147,36 +138,4 @@ module _ {column : ℕ} {part want₀ figures₀ : List ℕ} where
       → Raised (inColumn column part) figures₀ figures
   handed-raised {figures = figures} k h = subst (λ l. Raised (inColumn column l) figures₀ figures) (whole k h) (k .rises)
 
--- the first n rows are given all that they want
-module _ {n column : ℕ} {want₀ figures₀ : List ℕ} (rows : n ≤ length want₀) where
-  -- the part of the row is what it wants
-  part-is : {want figures : List ℕ} {i : ℕ} → Handing column (take n want₀) want₀ figures₀ want figures i → i < n → want ! i ≡ take n want₀ ! i
-  part-is {i = i} k h =
-      let a = k .falls i in let b = past-take 0 i (take n want₀) i (omega arith) in let c = getD-take n want₀ i 0 h in omega arith
-
-  pub whole-more : {want figures : List ℕ} {i : ℕ} → Handing column (take n want₀) want₀ figures₀ want figures i → i < n
-      → 4 * n ≤ length figures₀ → column < 4
-      → Handing column (take n want₀) want₀ figures₀ (set want i 0) (set figures (4 * i + column) (figures ! (4 * i + column) + want ! i)) (i + 1)
-  whole-more {want} {figures} {i} k h four-each inside =
-      subst₂ (λ (x y : ℕ). Handing column (take n want₀) want₀ figures₀ (set want i x) (set figures (4 * i + column) (figures ! (4 * i + column) + y)) (i + 1))
-      (let a = part-is k h in omega arith) (sym (part-is k h))
-      (handing-more k (let a = length-take-le n want₀ rows in omega arith) (let a = length-take-le n want₀ rows in omega arith) (let a = length-take-le n want₀ rows in omega arith) inside)
-
-  pub whole-room : {want figures : List ℕ} {i : ℕ} → Handing column (take n want₀) want₀ figures₀ want figures i → i < n
-      → column < 4 → Room want₀ figures₀ → Fits w64 (figures ! (4 * i + column) + want ! i)
-  whole-room {want} {figures} {i} k h inside room =
-      let a = k .rises .by i column inside in
-      let b = no-rise column (take i (take n want₀)) i column (past-take 0 i (take n want₀) i (omega arith)) in
-      let c = room .at i column inside in let d = k .falls i in
-      record { fits = omega arith }
-
-  pub whole-done : {want figures : List ℕ} {i : ℕ} → Handing column (take n want₀) want₀ figures₀ want figures i → n ≤ i → want ≡ want₀ ⊖ take n want₀
-  whole-done k h = handed k (let a = length-take-le n want₀ rows in omega arith) (let a = length-take-le n want₀ rows in omega arith)
-
-  pub whole-raised : {want figures : List ℕ} {i : ℕ} → Handing column (take n want₀) want₀ figures₀ want figures i → n ≤ i
-      → Raised (inColumn column (take n want₀)) figures₀ figures
-  whole-raised k h = handed-raised k (let a = length-take-le n want₀ rows in omega arith)
-
 pub ruleset handings = (handing, handing-more, handing-part, handing-room, handed, handed-raised, needs)
-
-pub ruleset wholes = (handing, whole-more, whole-room, whole-done, whole-raised, needs)

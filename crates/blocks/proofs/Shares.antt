@@ -1,11 +1,12 @@
 -- Sharing over a block, and over the four blocks one after the other. Assumes nothing.
 use mathlib.Core.Path.{_≡_, refl, sym, ap, ap₂, _∙_, subst}
 use mathlib.Core.Bool.{cond}
-use mathlib.Core.Logic.{⊎-elim}
+use mathlib.Core.Logic.{by-cases}
 use mathlib.Core.List.{List, [], _++_, append-nil}
 use Prim.Native.Nat.{ℕ, _+_, _-_, _*_, _≤_, _<_}
 use native.Mathlib.Nat.{le-of-eq, le-refl, add-sub-cancel}
 use native.Mathlib.Omega.{arith}
+use native.Mathlib.Decide.{decLt}
 use lib.Dec.{eqb}
 use lib.ListN.{length, getD, take, drop, length-take, length-drop, drop-of-length-le, length-append, List·getD-append}
 use lib.Seq.{take-all, take-at, getD-take, getD-drop, getD-append-add, ext-getD}
@@ -13,13 +14,14 @@ use mir.Syntax.{w64}
 use mir.Val.{Fits}
 use Rattle.lists.specs.Lists.{sum}
 use Rattle.lists.specs.Columns.{_⊖_, Below}
+use Rattle.lists.proofs.Parts.{part-at, take-le}
 use Rattle.lists.proofs.Rows.{at-replicate}
 use Rattle.lists.proofs.Columns.{_!_, at-⊖, sum-tight, length-rowwise}
 use Rattle.sharing.specs.Sharing.{share}
 use Rattle.sharing.proofs.Sharing.{share-lawful, adds-le}
 use Rattle.blocks.specs.Blocks.{standingAt, Rising, Raised, inColumn, inColumns, Room}
 use Rattle.blocks.proofs.Slices.{block, end-below, row-in}
-use Rattle.blocks.proofs.Handed.{split, past-take, no-rise}
+use Rattle.blocks.proofs.Handed.{past-take, no-rise}
 
 -- ---- parts of zero change nothing
 pub fall-nothing : (xs ps : List ℕ) → length ps ≤ length xs → ((i : ℕ) → ps ! i ≡ 0) → xs ≡ xs ⊖ ps
@@ -30,9 +32,6 @@ fall-nothing xs ps l z =
 pub raise-nothing : (column : ℕ) (ps figures : List ℕ) → ((i : ℕ) → ps ! i ≡ 0) → Raised (inColumn column ps) figures figures
 raise-nothing column ps figures z =
     record { same = refl; by = λ i j h. let a = no-rise column ps i j (z i) in omega arith }
-
-take-le : (n : ℕ) (l : List ℕ) (i : ℕ) → take n l ! i ≤ l ! i
-take-le n l i = ⊎-elim (λ h. le-of-eq (getD-take n l i 0 h)) (λ h. let a = past-take 0 n l i h in omega arith) (split i n)
 
 module _ (n : ℕ) (want : List ℕ) (short : n ≤ length want) where
   pub parts-length : (t : ℕ) → length (share t (take n want)) ≡ n
@@ -91,12 +90,11 @@ pub record Blocked (starts columns p want₀ figures₀ want figures : List ℕ)
   pub rises : Raised (inColumns columns (standingAt starts) (take (getD starts s 0) p)) figures₀ figures
 
 slice-at : (a e : ℕ) (p : List ℕ) (i : ℕ) → a ≤ e → a ≤ i → take (e - a) (drop a p) ! (i - a) ≡ take e p ! i
-slice-at a e p i h low = ⊎-elim below above (split i e)
+slice-at a e p i h low = by-cases (decLt i e) below (λ h. above (omega arith))
   where
     below : i < e → take (e - a) (drop a p) ! (i - a) ≡ take e p ! i
     below u =
-        getD-take (e - a) (drop a p) (i - a) 0 (omega arith) ∙ getD-drop a p (i - a) 0
-        ∙ ap (λ (k : ℕ). p ! k) back ∙ sym (getD-take e p i 0 u)
+        part-at (e - a) a p (i - a) 0 (omega arith) ∙ ap (λ (k : ℕ). p ! k) back ∙ sym (getD-take e p i 0 u)
       where
         back : a + (i - a) ≡ i
         back = omega arith
@@ -162,7 +160,7 @@ module _ {starts columns p want₀ figures₀ : List ℕ} (up : Rising starts (l
 
         falls-at : (i : ℕ) → new-want ! i ≡ want₀ ! i - take e p ! i
         unfolding a e new-want
-        falls-at i = ⊎-elim low high (split i a)
+        falls-at i = by-cases (decLt i a) low (λ h. high (omega arith))
           where
             low : i < a → new-want ! i ≡ want₀ ! i - take e p ! i
             low u =
@@ -200,7 +198,7 @@ module _ {starts columns p want₀ figures₀ : List ℕ} (up : Rising starts (l
         -- the part of a row of this block goes to the block's column; behind it there is none yet
         rise-here : (i j : ℕ) → a ≤ i → inColumn (columns ! s) (block starts p s) (i - a) j ≡ inColumns columns (standingAt starts) (take e p) i j
         unfolding a e
-        rise-here i j u = ⊎-elim below above (split i e)
+        rise-here i j u = by-cases (decLt i e) below (λ h. above (omega arith))
           where
             below : i < e → inColumn (columns ! s) (block starts p s) (i - a) j ≡ inColumns columns (standingAt starts) (take e p) i j
             below v =
@@ -215,7 +213,7 @@ module _ {starts columns p want₀ figures₀ : List ℕ} (up : Rising starts (l
 
         rises-at : (i j : ℕ) → j < 4 → new-figures ! (4 * i + j) ≡ figures₀ ! (4 * i + j) + inColumns columns (standingAt starts) (take e p) i j
         unfolding a e new-figures
-        rises-at i j l = ⊎-elim low high (split i a)
+        rises-at i j l = by-cases (decLt i a) low (λ h. high (omega arith))
           where
             low : i < a → new-figures ! (4 * i + j) ≡ figures₀ ! (4 * i + j) + inColumns columns (standingAt starts) (take e p) i j
             low u =
@@ -265,7 +263,7 @@ module _ {starts columns p want₀ figures₀ : List ℕ} (up : Rising starts (l
         ext-getD 0 (take m w) (block starts want₀ s) l
         (λ i u.
         let v : i < m = let c = length-take m w in omega arith in
-        getD-take m w i 0 v ∙ lent-at want a i ∙ want-kept k (a + i) (omega arith) ∙ sym (getD-take m (drop a want₀) i 0 v ∙ getD-drop a want₀ i 0))
+        getD-take m w i 0 v ∙ lent-at want a i ∙ want-kept k (a + i) (omega arith) ∙ sym (part-at m a want₀ i 0 v))
 
     pub lent-room : Blocked starts columns p want₀ figures₀ want figures s → Room want₀ figures₀
         → Room (take (length want - getD starts s 0) (drop (getD starts s 0) want)) (take (length figures - 4 * getD starts s 0) (drop (4 * getD starts s 0) figures))

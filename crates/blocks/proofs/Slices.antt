@@ -1,13 +1,16 @@
 -- Rows whose blocks start at given rows: what sharing, sums and submarkets are on the rows of one block. Assumes nothing.
-use mathlib.Core.Path.{_≡_, refl, sym, ap, ap₂, _∙_}
+use mathlib.Core.Path.{_≡_, refl, sym, ap, ap₂, _∙_, subst}
+use mathlib.Core.Logic.{by-cases}
 use mathlib.Core.List.{List, [], _∷_, _++_}
 use Prim.Native.Nat.{ℕ, zero, suc, _+_, _-_, _≤_, _<_}
 use native.Mathlib.Omega.{arith}
-use lib.ListN.{length, getD, take, drop, replicate, length-append, length-take, length-drop, length-replicate, getD-replicate}
-use lib.Seq.{take-all, take-length, take-append-seam, drop-append-seam, drop-append-add, getD-take, getD-drop}
+use native.Mathlib.Decide.{decLt}
+use lib.ListN.{length, getD, take, drop, replicate, length-append, length-take, length-drop, length-replicate, getD-replicate, List·getD-eq-default}
+use lib.Seq.{take-all, take-length, take-append-seam, drop-append-seam, drop-append-add}
 use Rattle.lists.specs.Lists.{sum}
-use Rattle.lists.specs.Columns.{totals}
+use Rattle.lists.specs.Columns.{Below, totals}
 use Rattle.lists.proofs.Columns.{_!_, below-four}
+use Rattle.lists.proofs.Parts.{part-at}
 use Rattle.sharing.specs.Laws.{Lawful}
 use Rattle.sharing.specs.Sharing.{Rule}
 use Rattle.blocks.specs.Portion.{portion}
@@ -18,27 +21,12 @@ use Rattle.blocks.proofs.Blocks.{Blocks, cut₁, cut₂, cut₃, cut₄
 abbrev pub block : List ℕ → List ℕ → ℕ → List ℕ
 block starts l s = take (getD starts (s + 1) 0 - getD starts s 0) (drop (getD starts s 0) l)
 
--- figures of one value, and of two lists one behind the other
-same-most : (n t : ℕ) → t ≤ 4 → (i : ℕ) → replicate n t ! i ≤ 4
-same-most zero t h i = omega arith
-same-most (suc n) t h zero = h
-same-most (suc n) t h (suc i) = same-most n t h i
-
-same-least : (n t : ℕ) → 1 ≤ t → (i : ℕ) → i < length (replicate n t) → 1 ≤ replicate n t ! i
-same-least zero t h i l = absurd (omega arith)
-same-least (suc n) t h zero l = h
-same-least (suc n) t h (suc i) l = same-least n t h i (omega arith)
-
-at-most : (x y : List ℕ) → ((i : ℕ) → x ! i ≤ 4) → ((i : ℕ) → y ! i ≤ 4) → (i : ℕ) → (x ++ y) ! i ≤ 4
-at-most [] y f h i = h i
-at-most (t ∷ x) y f h zero = f 0
-at-most (t ∷ x) y f h (suc i) = at-most x y (λ i. f (suc i)) h i
-
-at-least : (x y : List ℕ) → ((i : ℕ) → i < length x → 1 ≤ x ! i) → ((i : ℕ) → i < length y → 1 ≤ y ! i)
-    → (i : ℕ) → i < length (x ++ y) → 1 ≤ (x ++ y) ! i
-at-least [] y f h i l = h i l
-at-least (t ∷ x) y f h zero l = f 0 (omega arith)
-at-least (t ∷ x) y f h (suc i) l = at-least x y (λ i k. f (suc i) (omega arith)) h i (omega arith)
+-- what holds of each figure of two lists holds of each of both, one behind the other
+all-append : (P : ℕ → Type 0) (x y : List ℕ) → ((i : ℕ) → i < length x → P (x ! i)) → ((i : ℕ) → i < length y → P (y ! i))
+    → (i : ℕ) → i < length (x ++ y) → P ((x ++ y) ! i)
+all-append P [] y f h i l = h i l
+all-append P (t ∷ x) y f h zero l = f 0 (omega arith)
+all-append P (t ∷ x) y f h (suc i) l = all-append P x y (λ i k. f (suc i) (omega arith)) h i (omega arith)
 
 module _ (starts : List ℕ) (n : ℕ) (up : Rising starts n) where
   b : ℕ
@@ -73,28 +61,28 @@ module _ (starts : List ℕ) (n : ℕ) (up : Rising starts n) where
   standing-length = let k = know in simp (length-append, length-replicate) (omega arith)
 
   -- the submarkets are 1 to 4
+  abbrev rows : ℕ → List ℕ
+  rows s = replicate (blockRows starts s) s
+
+  abbrev OneToFour : ℕ → Type 0
+  OneToFour t = (1 ≤ t) × (t ≤ 4)
+
+  pub standing-in : (i : ℕ) → i < n → (1 ≤ standingAt starts ! i) × (standingAt starts ! i ≤ 4)
+  unfolding standingAt
+  standing-in i h =
+      join (rows 1) (rows 2 ++ (rows 3 ++ rows 4)) (own 1 (omega arith)) (join (rows 2) (rows 3 ++ rows 4) (own 2 (omega arith)) (join (rows 3) (rows 4) (own 3 (omega arith)) (own 4 (omega arith)))) i
+      (let a = standing-length in omega arith)
+    where
+      join : (x y : List ℕ) → ((i : ℕ) → i < length x → OneToFour (x ! i)) → ((i : ℕ) → i < length y → OneToFour (y ! i)) → (i : ℕ) → i < length (x ++ y) → OneToFour ((x ++ y) ! i)
+      join = all-append OneToFour
+
+      own : (s : ℕ) → OneToFour s → (i : ℕ) → i < length (rows s) → OneToFour (rows s ! i)
+      own s h i l = subst OneToFour (sym (getD-replicate (blockRows starts s) i s 0 (let a = length-replicate (blockRows starts s) s in omega arith))) h
+
   pub standing-le : (i : ℕ) → standingAt starts ! i ≤ 4
-  unfolding standingAt
-  standing-le = at-most (rows 1) (rows 2 ++ (rows 3 ++ rows 4)) (under 1 (omega arith)) (at-most (rows 2) (rows 3 ++ rows 4) (under 2 (omega arith)) (at-most (rows 3) (rows 4) (under 3 (omega arith)) (under 4 (omega arith))))
-    where
-      rows : ℕ → List ℕ
-      rows s = replicate (blockRows starts s) s
-
-      under : (s : ℕ) → s ≤ 4 → (i : ℕ) → rows s ! i ≤ 4
-      under s h = same-most (blockRows starts s) s h
-
-  pub standing-ge : (i : ℕ) → i < n → 1 ≤ standingAt starts ! i
-  unfolding standingAt
-  standing-ge i h = all i (let a = standing-length in omega arith)
-    where
-      rows : ℕ → List ℕ
-      rows s = replicate (blockRows starts s) s
-
-      over : (s : ℕ) → 1 ≤ s → (i : ℕ) → i < length (rows s) → 1 ≤ rows s ! i
-      over s h = same-least (blockRows starts s) s h
-
-      all : (i : ℕ) → i < length (rows 1 ++ (rows 2 ++ (rows 3 ++ rows 4))) → 1 ≤ (rows 1 ++ (rows 2 ++ (rows 3 ++ rows 4))) ! i
-      all = at-least (rows 1) (rows 2 ++ (rows 3 ++ rows 4)) (over 1 (omega arith)) (at-least (rows 2) (rows 3 ++ rows 4) (over 2 (omega arith)) (at-least (rows 3) (rows 4) (over 3 (omega arith)) (over 4 (omega arith))))
+  standing-le i =
+      by-cases (decLt i n) (λ h. standing-in i h .1)
+      (λ h. let a : standingAt starts ! i ≡ 0 = List·getD-eq-default (standingAt starts) 0 (let b = standing-length in omega arith) in omega arith)
 
   pub end-below : (s : ℕ) → s < 4 → getD starts (s + 1) 0 ≤ n
   unfolding b c d
@@ -136,7 +124,7 @@ module _ (starts : List ℕ) (n : ℕ) (up : Rising starts n) where
       let a : ℕ = getD starts s 0 in
       let m : ℕ = getD starts (s + 1) 0 - a in
       let e : i ≡ a + (i - a) = omega arith in
-      ap (λ (k : ℕ). l ! k) e ∙ sym (getD-take m (drop a l) (i - a) 0 (omega arith) ∙ getD-drop a l (i - a) 0)
+      ap (λ (k : ℕ). l ! k) e ∙ sym (part-at m a l (i - a) 0 (omega arith))
 
   -- the submarket of a block's row
   pub row-in : (s i : ℕ) → s < 4 → getD starts s 0 ≤ i → i < getD starts (s + 1) 0 → standingAt starts ! i ≡ s + 1
@@ -145,9 +133,6 @@ module _ (starts : List ℕ) (n : ℕ) (up : Rising starts n) where
       in-block (standingAt starts) s i low high ∙ ap (λ l. l ! (i - getD starts s 0)) (are s h)
       ∙ same s h (i - getD starts s 0) (omega arith)
     where
-      rows : ℕ → List ℕ
-      rows k = replicate (blockRows starts k) k
-
       are : (s : ℕ) → s < 4 → block starts (standingAt starts) s ≡ getD (rows 1 ∷ rows 2 ∷ rows 3 ∷ rows 4 ∷ []) s []
       are = pieces (rows 1) (rows 2) (rows 3) (rows 4) (length-replicate _ 1) (length-replicate _ 2) (length-replicate _ 3) (length-replicate _ 4)
 
@@ -195,10 +180,10 @@ module _ (starts : List ℕ) (n : ℕ) (up : Rising starts n) where
             ≡ sum (getD (cut₁ in-blocks ws same ∷ cut₂ in-blocks ws same ∷ cut₃ in-blocks ws same ∷ cut₄ in-blocks ws same ∷ []) s [])
         go = below-four _ refl refl refl refl
 
-    module _ {rule : Rule} (L : Lawful rule) (amounts : List ℕ) (fits : (s : ℕ) → amounts ! s ≤ totals (standingAt starts) ws ! s) where
+    module _ {rule : Rule} (L : Lawful rule) (amounts : List ℕ) (fits : Below amounts (totals (standingAt starts) ws)) where
       pub portion-block : (s : ℕ) → s < 4 → block starts (portion rule (standingAt starts) amounts ws) s ≡ rule (amounts ! s) (block starts ws s)
       portion-block s h =
-          ap (λ l. block starts l s) (portion-rows in-blocks ws same L amounts (λ s _ _. fits (s - 1)))
+          ap (λ l. block starts l s) (portion-rows in-blocks ws same L amounts fits)
           ∙ pieces (x 0) (x 1) (x 2) (x 3) (long 0 (omega arith)) (long 1 (omega arith)) (long 2 (omega arith)) (long 3 (omega arith)) s h
           ∙ go s h ∙ ap (rule (amounts ! s)) (cut s h)
         where

@@ -1,5 +1,6 @@
 // Each submarket's rows form one block (document 01): where the blocks start, their sums, and an amount for each shared over its rows.
 ghost use mathlib.Core.Path.{_≡_};
+ghost use mathlib.Core.List.{_++_};
 ghost use Prim.Native.Nat.{_+_, _*_, _^_, _≤_, _<_};
 ghost use lib.ListN.{length, take, drop, getD};
 ghost use Rattle.lists.specs.Lists.{sum, Within};
@@ -51,22 +52,19 @@ fn hand_over(column: usize, part: &[u64], want: &mut [u64], figures: &mut [u64])
     }
 }
 
-// Gives each of the first n rows all that it wants.
-fn hand_whole(n: usize, column: usize, want: &mut [u64], figures: &mut [u64])
-    requires { ⌜ (n ≤ length (now want)) × (4 * n ≤ length (now figures)) × (column < 4) × Room (now want) (now figures) ⌝ }
-    ensures { λ _. ⌜ now (want .exit) ≡ now (want .entry) ⊖ take n (now (want .entry)) ⌝ }
-    ensures { λ _. ⌜ Raised (inColumn column (take n (now (want .entry)))) (now (figures .entry)) (now (figures .exit)) ⌝ }
+// Shares an amount over the wants, whose sum is total, into the front of part. An amount that is the whole sum needs no division.
+fn parts_into(amount: u64, total: u64, want: &[u64], part: &mut [u64])
+    requires { ⌜ (total ≡ sum (now want)) × (total < 2 ^ 62) × (length (now want) ≤ length (now part)) ⌝ }
+    ensures { λ _. ⌜ now (part .exit) ≡ share amount (now (want .entry)) ++ drop (length (now (want .entry))) (now (part .entry)) ⌝ }
 {
-    let mut i: usize = 0;
-    while i < n {
-        let at = 4 * i + column;
-        figures[at] = figures[at] + want[i];
-        want[i] = 0;
-        i = i + 1;
+    if amount == total {
+        lists::copy_into(want, part);
+    } else {
+        sharing::share_into(amount, total, want, part);
     }
 }
 
-// Shares an amount over the wants of the first n rows, whose sum is total, and hands it over. An amount that is the whole sum needs no division.
+// Shares an amount over the wants of the first n rows, whose sum is total, and hands it over.
 fn share_block(
     amount: u64,
     total: u64,
@@ -84,11 +82,7 @@ fn share_block(
     if amount == 0 {
         return;
     }
-    if amount == total {
-        hand_whole(n, column, want, figures);
-        return;
-    }
-    sharing::share_into(amount, total, &want[..n], part);
+    parts_into(amount, total, &want[..n], part);
     hand_over(column, &part[..n], want, figures);
 }
 

@@ -1,26 +1,45 @@
 -- Steps 4 to 7 for any lawful rule of sharing: what four submarkets have meets what the plants want. Assumes nothing.
-use mathlib.Core.Path.{_≡_, refl, sym, _∙_, subst}
+use mathlib.Core.Path.{_≡_, refl, sym, ap, _∙_, subst}
 use Prim.Native.Nat.{ℕ, zero, suc, _+_, _-_, min, _≤_}
 use native.Mathlib.Omega.{arith}
+use native.Mathlib.Nat.{le-of-eq}
 use mathlib.Core.List.{List, [], _∷_, map}
 use lib.ListN.{length, getD, length-map, List·getD-map}
-use Rattle.lists.specs.Columns.{_⊕_, _⊖_, _⊓_, joined, within, at, totals}
+use Rattle.lists.specs.Columns.{_⊖_, _⊓_, Below, joined, inside, within, at, totals, transpose}
 use Rattle.lists.specs.Lists.{sum, most}
-use Rattle.lists.proofs.Columns.{_!_, length-rowwise, at-⊕, at-⊖, at-⊓, sum-⊕, sum-⊖, sum-ext, sum-tight, sum-joined, at-map-sum, joined-four, transpose-at, transpose-sum, within-⊖, within-nil, within-joined, Sited, sited-le, totals-sum, totals-ext, totals-is, at-totals, at-joined}
+use Rattle.lists.proofs.Columns.{_!_, length-rowwise, at-⊕, at-⊖, at-⊓, sum-⊖, sum-ext, sum-tight, sum-joined, at-map-sum, joined-four, at-within, transpose-at, transpose-sum, within-nil, within-joined, Sited, sited-le, totals-sum, totals-ext, totals-is, at-totals, at-joined}
 use Rattle.lists.proofs.Sums.{at-le-sum}
 use Rattle.lists.proofs.Questions.{every-all, at-most-all}
 use Rattle.sharing.specs.Laws.{Lawful}
-use Rattle.transfer.specs.Laws.{rowSum}
+use Rattle.transfer.specs.Laws.{rowSum, Served}
 use Rattle.sharing.specs.Sharing.{Rule}
 use Rattle.transfer.specs.Transfer.{serve, transfer}
 use Rattle.transfer.specs.Calls.{apart}
-use Rattle.transfer.proofs.Served.{length-serve, serve-adds, serve-under, transfer-rows}
+use Rattle.transfer.proofs.Served.{length-serve, served, transfer-rows}
 use Rattle.transfer.proofs.Asked.{Transferable}
 use Rattle.blocks.specs.Portion.{portion}
-use Rattle.blocks.proofs.Portion.{Fits, portion-under, portion-adds, portion-sized}
-use Rattle.cover.specs.Cover.{own, ownParts, table, got, rest}
+use Rattle.blocks.proofs.Portion.{portion-under, portion-adds, portion-sized, at-fall}
+use Rattle.cover.specs.Givers.{SentWithin}
+use Rattle.cover.specs.Cover.{own, ownParts, table, got, rest, supplied}
 use borrow.Author.Tests.{eq-eqb}
 use lib.Dec.{eqb}
+
+pub at-supplied : (rule : Rule) (subs have want : List ℕ) (s i : ℕ)
+    → supplied rule subs have want s ! i ≡ inside s (subs ! i) (ownParts rule subs have want ! i) + at s (got rule subs have want) [] ! i
+unfolding supplied
+at-supplied rule subs have want s i =
+    at-⊕ (within s subs (ownParts rule subs have want)) (at s (got rule subs have want) []) i
+    ∙ ap (λ (x : ℕ). x + at s (got rule subs have want) [] ! i) (at-within s subs (ownParts rule subs have want) i)
+
+-- of what the givers sent: the first row, and the others once it is served
+module _ (row : List ℕ) (rows : List (List ℕ)) (need : List ℕ) (sent : SentWithin (row ∷ rows) need) where
+  pub sent-first : Below row need
+  unfolding sum
+  sent-first s = let a = sent s in omega arith
+
+  pub sent-then : SentWithin rows (need ⊖ row)
+  unfolding sum
+  sent-then s = let a = sent s in let b = at-⊖ need row s in omega arith
 
 module _ {rule : Rule} (L : Lawful rule) where
   module _ (subs : List ℕ) where
@@ -37,46 +56,52 @@ module _ {rule : Rule} (L : Lawful rule) where
     unfolding ownParts
     own-sized have want h = let a = portion-sized L subs (own rule subs have want) want in omega arith
 
+    pub own-fits : (have want : List ℕ) → Below (own rule subs have want) (totals subs want)
+    unfolding own
+    own-fits have want j = let a = at-⊓ have (totals subs want) j in omega arith
+
+    pub own-under : (have want : List ℕ) → Below (ownParts rule subs have want) want
+    unfolding ownParts
+    own-under have want = portion-under L subs (own rule subs have want) want (own-fits have want)
+
     pub got-sized : (have want : List ℕ) (g : ℕ) → length want ≤ length subs → length (getD (got rule subs have want) g []) ≤ length subs
     unfolding got
     got-sized have want g h =
         spread-sized (table rule subs have want) (want ⊖ ownParts rule subs have want) g
         (let a = own-sized have want h in let b = length-rowwise _-_ 0 0 want (ownParts rule subs have want) in omega arith)
 
+    pub supplied-sized : (have want : List ℕ) → length want ≤ length subs → (s : ℕ) → length (supplied rule subs have want s) ≡ length subs
+    unfolding supplied
+    supplied-sized have want h s =
+        length-rowwise _+_ 0 0 (within s subs (ownParts rule subs have want)) (at s (got rule subs have want) [])
+        ∙ (let a = length-rowwise (inside s) 0 0 subs (ownParts rule subs have want) in let b = own-sized have want h in let c = got-sized have want (s - 1) h in omega arith)
+
     -- the rows of a table, giver by giver, spread over the plants
-    abbrev FitsAll : List (List ℕ) → List ℕ → Type 0
-    FitsAll rows ws = (s : ℕ) → 1 ≤ s → s ≤ 4 → sum (map (λ r. at s r 0) rows) ≤ sum (within s subs ws)
+    module _ (row : List ℕ) (rows : List (List ℕ)) (ws : List ℕ) (sent : SentWithin (row ∷ rows) (totals subs ws)) where
+      fits : Below row (totals subs ws)
+      fits = sent-first row rows (totals subs ws) sent
 
-    module _ (row : List ℕ) (rows : List (List ℕ)) (ws : List ℕ) (fits : FitsAll (row ∷ rows) ws) where
-      fits-first : Fits L subs row ws
-      unfolding sum
-      fits-first s l h = let a = fits s l h in omega arith
+      still-sent : SentWithin rows (totals subs (ws ⊖ portion rule subs row ws))
+      still-sent s =
+          let a = sent-then row rows (totals subs ws) sent s in let b = at-⊖ (totals subs ws) row s in let c = at-fall L subs row ws fits s in omega arith
 
-      fits-then : FitsAll rows (ws ⊖ portion rule subs row ws)
-      unfolding sum
-      fits-then s l h =
-          let a = fits s l h in
-          let b = within-⊖ s subs ws (portion rule subs row ws) (portion-under L subs row ws fits-first) in
-          let c = portion-adds L subs row ws fits-first s l h in
-          omega arith
-
-    spread-under : (rows : List (List ℕ)) (ws : List ℕ) → FitsAll rows ws → (i : ℕ) → joined (serve (portion rule subs) ws rows) ! i ≤ ws ! i
+    spread-under : (rows : List (List ℕ)) (ws : List ℕ) → SentWithin rows (totals subs ws) → Below (joined (serve (portion rule subs) ws rows)) ws
     unfolding serve joined
-    spread-under [] ws fits i = omega arith
-    spread-under (row ∷ rows) ws fits i =
+    spread-under [] ws sent i = omega arith
+    spread-under (row ∷ rows) ws sent i =
         let p = portion rule subs row ws in
-        let k = spread-under rows (ws ⊖ p) (fits-then row rows ws fits) i in
+        let k = spread-under rows (ws ⊖ p) (still-sent row rows ws sent) i in
         let a = at-⊕ p (joined (serve (portion rule subs) (ws ⊖ p) rows)) i in
         let b = at-⊖ ws p i in
-        let c = portion-under L subs row ws (fits-first row rows ws fits) i in
+        let c = portion-under L subs row ws (fits row rows ws sent) i in
         omega arith
 
-    spread-adds : (rows : List (List ℕ)) (ws : List ℕ) → FitsAll rows ws → (g s : ℕ) → 1 ≤ s → s ≤ 4
+    spread-adds : (rows : List (List ℕ)) (ws : List ℕ) → SentWithin rows (totals subs ws) → (g s : ℕ) → 1 ≤ s → s ≤ 4
         → sum (within s subs (getD (serve (portion rule subs) ws rows) g [])) ≡ at s (getD rows g []) 0
     unfolding serve
-    spread-adds [] ws fits g s l h = within-nil s subs
-    spread-adds (row ∷ rows) ws fits zero s l h = portion-adds L subs row ws (fits-first row rows ws fits) s l h
-    spread-adds (row ∷ rows) ws fits (suc g) s l h = spread-adds rows (ws ⊖ portion rule subs row ws) (fits-then row rows ws fits) g s l h
+    spread-adds [] ws sent g s l h = within-nil s subs
+    spread-adds (row ∷ rows) ws sent zero s l h = portion-adds L subs row ws (fits row rows ws sent) s l h
+    spread-adds (row ∷ rows) ws sent (suc g) s l h = spread-adds rows (ws ⊖ portion rule subs row ws) (still-sent row rows ws sent) g s l h
 
 -- What steps 4 to 6 come to
 pub record Met (rule : Rule) (subs have want : List ℕ) : Type 0 where
@@ -104,9 +129,6 @@ module _ {rule : Rule} (L : Lawful rule) (subs have want : List ℕ) (four-have 
   open′ : List ℕ
   open′ = need ⊖ own rule subs have want
 
-  cols : List (List ℕ)
-  cols = serve rule left open′
-
   at-own : (j : ℕ) → own rule subs have want ! j ≡ min (have ! j) (need ! j)
   unfolding own need
   at-own j = at-⊓ have (totals subs want) j
@@ -130,63 +152,44 @@ module _ {rule : Rule} (L : Lawful rule) (subs have want : List ℕ) (four-have 
   fit-cols : sum open′ ≤ sum left
   fit-cols = let a = sum-left in let b = sum-open in omega arith
 
-  col-adds : (r : ℕ) → sum (getD cols r []) ≡ open′ ! r
-  unfolding cols
-  col-adds = serve-adds L left open′ fit-cols
+  -- what step 5 promises of the table: each receiver is sent its open need, no giver more than it has left
+  promised : Served rule left open′
+  promised = served L left open′ fit-cols
 
-  cols-under : (g : ℕ) → joined cols ! g ≤ left ! g
-  unfolding cols
-  cols-under = serve-under L left open′ fit-cols
+  pub sent-is : (r : ℕ) → sum (map (λ g. g ! r) (table rule subs have want)) ≡ (totals subs want ⊖ own rule subs have want) ! r
+  unfolding table left open′ need
+  sent-is r =
+      sum-ext (map (λ g. g ! r) (table rule subs have want)) (getD (transpose 0 (table rule subs have want)) r [])
+      (λ g. List·getD-map (λ g. g ! r) (table rule subs have want) g [] ∙ sym (transpose-at (table rule subs have want) r g))
+      ∙ promised .received r
 
-  at-table : (g r : ℕ) → getD (table rule subs have want) g [] ! r ≡ getD cols r [] ! g
-  unfolding table transfer cols left open′ need
-  at-table = transpose-at cols
-
-  sum-row : (g : ℕ) → sum (getD (table rule subs have want) g []) ≡ joined cols ! g
-  unfolding table transfer cols left open′ need
-  sum-row = transpose-sum cols
-
-  at-need : (s : ℕ) → 1 ≤ s → s ≤ 4 → at s need 0 ≡ sum (within s subs want)
-  unfolding need
-  at-need = at-totals subs want
-
-  fits-own : Fits L subs (own rule subs have want) want
-  fits-own s l h = let a = at-own (s - 1) in let b = at-need s l h in omega arith
-
-  own-under : (i : ℕ) → ownParts rule subs have want ! i ≤ want ! i
-  unfolding ownParts
-  own-under = portion-under L subs (own rule subs have want) want fits-own
+  given : (g : ℕ) → sum (getD (table rule subs have want) g []) ≤ left ! g
+  unfolding table left open′ need
+  given = promised .given
 
   own-adds : (s : ℕ) → 1 ≤ s → s ≤ 4 → sum (within s subs (ownParts rule subs have want)) ≡ at s (own rule subs have want) 0
   unfolding ownParts
-  own-adds = portion-adds L subs (own rule subs have want) want fits-own
+  own-adds = portion-adds L subs (own rule subs have want) want (own-fits L subs have want)
 
   -- the needs of the plants that are still open, by submarket
   still : List ℕ
   still = want ⊖ ownParts rule subs have want
 
-  still-adds : (s : ℕ) → 1 ≤ s → s ≤ 4 → sum (within s subs still) ≡ at s open′ 0
-  unfolding still
-  still-adds s l h =
-      let a = within-⊖ s subs want (ownParts rule subs have want) own-under in let b = own-adds s l h in let c = at-need s l h in
-      let d = at-open (s - 1) in omega arith
+  still-open : (j : ℕ) → totals subs still ! j ≡ open′ ! j
+  unfolding still ownParts need
+  still-open j = at-fall L subs (own rule subs have want) want (own-fits L subs have want) j ∙ sym (at-open j)
 
-  column-adds : (s : ℕ) → 1 ≤ s → s ≤ 4 → sum (map (λ r. at s r 0) (table rule subs have want)) ≡ at s open′ 0
-  column-adds s l h =
-      sum-ext (map (λ r. at s r 0) (table rule subs have want)) (getD cols (s - 1) [])
-      (λ g. List·getD-map (λ r. at s r 0) (table rule subs have want) g [] ∙ at-table g (s - 1))
-      ∙ col-adds (s - 1)
+  sent-still : SentWithin (table rule subs have want) (totals subs still)
+  unfolding open′ need
+  sent-still r = le-of-eq (sent-is r ∙ sym (still-open r))
 
-  fits-got : FitsAll L subs (table rule subs have want) still
-  fits-got s l h = let a = column-adds s l h in let b = still-adds s l h in omega arith
-
-  got-under : (i : ℕ) → joined (got rule subs have want) ! i ≤ still ! i
+  got-under : Below (joined (got rule subs have want)) still
   unfolding got still
-  got-under = spread-under L subs (table rule subs have want) still fits-got
+  got-under = spread-under L subs (table rule subs have want) still sent-still
 
   got-adds : (g s : ℕ) → 1 ≤ s → s ≤ 4 → sum (within s subs (getD (got rule subs have want) g [])) ≡ at s (getD (table rule subs have want) g []) 0
   unfolding got still
-  got-adds = spread-adds L subs (table rule subs have want) still fits-got
+  got-adds = spread-adds L subs (table rule subs have want) still sent-still
 
   -- lengths: four submarkets throughout
   four-own : length (own rule subs have want) ≡ 4
@@ -200,10 +203,6 @@ module _ {rule : Rule} (L : Lawful rule) (subs have want : List ℕ) (four-have 
   four-open : length open′ ≡ 4
   unfolding open′ need totals
   four-open = length-rowwise _-_ 0 0 (totals subs want) (own rule subs have want) ∙ rw four-own refl
-
-  four-cols : length cols ≡ 4
-  unfolding cols
-  four-cols = length-serve rule left open′ ∙ four-open
 
   pub four-rows : length (table rule subs have want) ≡ 4
   unfolding table left open′ need
@@ -224,11 +223,12 @@ module _ {rule : Rule} (L : Lawful rule) (subs have want : List ℕ) (four-have 
       ∙ rw (four-left, length-map, four-rows) refl
 
   -- the plants' wants are filled
-  still-le : (i : ℕ) → still ! i ≤ want ! i
+  still-le : Below still want
   unfolding still
   still-le i = let a = at-⊖ want (ownParts rule subs have want) i in omega arith
 
   got-within : (s : ℕ) → 1 ≤ s → s ≤ 4 → sum (within s subs (joined (got rule subs have want))) ≡ sum (within s subs still)
+  unfolding open′ need
   got-within s l h =
       within-joined s subs (got rule subs have want)
       ∙ sum-ext (map (λ c. sum (within s subs c)) (got rule subs have want)) (map (λ r. at s r 0) (table rule subs have want))
@@ -236,7 +236,7 @@ module _ {rule : Rule} (L : Lawful rule) (subs have want : List ℕ) (four-have 
       subst (λ d. getD (map (λ c. sum (within s subs c)) (got rule subs have want)) g d ≡ sum (within s subs (getD (got rule subs have want) g [])))
       (within-nil s subs) (List·getD-map (λ c. sum (within s subs c)) (got rule subs have want) g [])
       ∙ got-adds g s l h ∙ sym (List·getD-map (λ r. at s r 0) (table rule subs have want) g []))
-      ∙ column-adds s l h ∙ sym (still-adds s l h)
+      ∙ sent-is (s - 1) ∙ sym (still-open (s - 1)) ∙ at-totals subs still s l h
 
   got-sum : sum (joined (got rule subs have want)) ≡ sum still
   got-sum =
@@ -251,54 +251,53 @@ module _ {rule : Rule} (L : Lawful rule) (subs have want : List ℕ) (four-have 
   fills′ i =
       let a = sum-tight (joined (got rule subs have want)) still got-under (let e = got-sum in omega arith) i in
       let b : still ! i ≡ want ! i - ownParts rule subs have want ! i = unfold still in at-⊖ want (ownParts rule subs have want) i in
-      let c = own-under i in
+      let c = own-under L subs have want i in
       omega arith
 
-  -- what went out of a submarket by the table
+  -- what went out of a submarket by the table: a row adds up to its four places
+  pub row-is : (g : ℕ) → rowSum (table rule subs have want) g ≡ sum (getD (table rule subs have want) g [])
+  unfolding table transfer left open′ need
+  row-is g =
+      sym (transpose-sum cols g ∙ joined-four cols (length-serve rule left open′ ∙ four-open) g
+      ∙ (let a = transpose-at cols g 0 in let b = transpose-at cols g 1 in let c = transpose-at cols g 2 in let d = transpose-at cols g 3 in omega arith))
+    where
+      cols : List (List ℕ)
+      cols = serve rule left open′
+
   from-table : (s : ℕ) → 1 ≤ s → s ≤ 4 → sum (at s (got rule subs have want) []) ≡ sum (at s (table rule subs have want) [])
   from-table s l h =
       sym (totals-sum subs (at s (got rule subs have want) []) (sited-le subs (at s (got rule subs have want) []) want under sited))
-      ∙ (let a = by 1 (omega arith) (omega arith) in let b = by 2 (omega arith) (omega arith) in
-      let c = by 3 (omega arith) (omega arith) in let d = by 4 (omega arith) (omega arith) in
-      let e = joined-four cols four-cols (s - 1) in let f = sum-row (s - 1) in
-      let g = totals-is subs (at s (got rule subs have want) []) in
+      ∙ (let a = got-adds (s - 1) 1 (omega arith) (omega arith) in let b = got-adds (s - 1) 2 (omega arith) (omega arith) in
+      let c = got-adds (s - 1) 3 (omega arith) (omega arith) in let d = got-adds (s - 1) 4 (omega arith) (omega arith) in
+      let e = row-is (s - 1) in let f = totals-is subs (at s (got rule subs have want) []) in
       omega arith)
     where
-      under : (i : ℕ) → at s (got rule subs have want) [] ! i ≤ want ! i
+      under : Below (at s (got rule subs have want) []) want
       under i = let a = at-joined (got rule subs have want) (s - 1) i in let b = got-under i in let c = still-le i in omega arith
 
-      by : (r : ℕ) → 1 ≤ r → r ≤ 4 → sum (within r subs (at s (got rule subs have want) [])) ≡ at r cols [] ! (s - 1)
-      by r k m = got-adds (s - 1) r k m ∙ at-table (s - 1) (r - 1)
-
   no-loop : (s : ℕ) → 1 ≤ s → s ≤ 4 → (i : ℕ) → within s subs (at s (got rule subs have want) []) ! i ≡ 0
+  unfolding table left open′ need
   no-loop s l h i =
       let a = at-le-sum (within s subs (at s (got rule subs have want) [])) i in
       let b = got-adds (s - 1) s l h in
-      let c = at-table (s - 1) (s - 1) in
-      let d = at-le-sum (getD cols (s - 1) []) (s - 1) in
-      let e = col-adds (s - 1) in
-      let f = at-joined cols (s - 1) (s - 1) in
-      let g = cols-under (s - 1) in
-      let j = at-own (s - 1) in let k = at-left (s - 1) in let m = at-open (s - 1) in
+      let c = promised .apart (s - 1) (let j = at-own (s - 1) in let k = at-left (s - 1) in let m = at-open (s - 1) in omega arith) in
       omega arith
 
-  at-rest : (j : ℕ) → rest rule subs have want ! j ≡ left ! j - joined cols ! j
+  at-rest : (j : ℕ) → rest rule subs have want ! j ≡ left ! j - sum (getD (table rule subs have want) j [])
   unfolding rest left
-  at-rest j = at-⊖ left (map sum (table rule subs have want)) j ∙ rw (at-map-sum, sum-row)
+  at-rest j = at-⊖ left (map sum (table rule subs have want)) j ∙ rw at-map-sum
 
   spent′ : (j : ℕ) → own rule subs have want ! j + sum (getD (table rule subs have want) j []) + rest rule subs have want ! j ≡ have ! j
-  spent′ j =
-      let a = at-rest j in let b = at-left j in let c = at-own j in let d = cols-under j in let e = sum-row j in omega arith
+  spent′ j = let a = at-rest j in let b = at-left j in let c = at-own j in let d = given j in omega arith
 
   leaves′ : sum (rest rule subs have want) + sum want ≡ sum have
+  unfolding rest table left open′ need
   leaves′ =
-      let a : sum (rest rule subs have want) + sum (joined cols) ≡ sum left =
-      sym (sum-⊕ (rest rule subs have want) (joined cols))
-      ∙ sum-ext (rest rule subs have want ⊕ joined cols) left
-      (λ j. at-⊕ (rest rule subs have want) (joined cols) j ∙ (let p = at-rest j in let q = cols-under j in omega arith)) in
-      let b : sum (joined cols) ≡ sum open′ =
-      sum-joined cols ∙ sum-ext (map sum cols) open′ (λ r. at-map-sum cols r ∙ col-adds r) in
-      let c = sum-left in let d = sum-open in
+      let T = table rule subs have want in
+      let a = sum-⊖ left (map sum T) (λ j. let p = at-map-sum T j in let q = given j in omega arith) in
+      let b = sum-joined T in
+      let c = sum-ext (joined T) open′ (λ r. sym (transpose-sum T r) ∙ promised .received r) in
+      let d = sum-left in let e = sum-open in
       omega arith
 
   pub met : Met rule subs have want
@@ -314,22 +313,9 @@ module _ {rule : Rule} (L : Lawful rule) (subs have want : List ℕ) (four-have 
         fourLeft = four-rest;
       }
 
-  -- what the code goes by: each receiver is sent its open need, a row adds up to its four places, and no giver sends more than it has left
-  pub sent-is : (r : ℕ) → sum (map (λ g. g ! r) (table rule subs have want)) ≡ (totals subs want ⊖ own rule subs have want) ! r
-  unfolding open′ need
-  sent-is r =
-      sum-ext (map (λ g. g ! r) (table rule subs have want)) (getD cols r [])
-      (λ g. List·getD-map (λ g. g ! r) (table rule subs have want) g [] ∙ at-table g r)
-      ∙ col-adds r
-
-  pub row-is : (g : ℕ) → rowSum (table rule subs have want) g ≡ sum (getD (table rule subs have want) g [])
-  row-is g =
-      sym (sum-row g ∙ joined-four cols four-cols g
-      ∙ (let a = at-table g 0 in let b = at-table g 1 in let c = at-table g 2 in let d = at-table g 3 in omega arith))
-
   pub row-under : (g : ℕ) → rowSum (table rule subs have want) g ≤ (have ⊖ own rule subs have want) ! g
   unfolding left
-  row-under g = let a = row-is g in let b = sum-row g in let c = cols-under g in omega arith
+  row-under g = let a = row-is g in let b = given g in omega arith
 
   -- the transfer step's question is answered yes, where no more than 2 × 10^9 is at hand
   pub transfer-asked : sum have ≤ most → Transferable (have ⊖ own rule subs have want) (totals subs want ⊖ own rule subs have want)

@@ -1,18 +1,19 @@
 -- Step 6: givers in order, each sharing what it sent over the needs that are still open. Assumes nothing.
 use mathlib.Core.Path.{_≡_, refl, sym, ap, _∙_, subst}
-use mathlib.Core.Logic.{⊎-elim}
-use mathlib.Core.List.{List, [], _∷_, map}
+use mathlib.Core.Logic.{by-cases}
+use mathlib.Core.List.{List, [], _∷_}
 use Prim.Native.Nat.{ℕ, zero, suc, _+_, _-_, _≤_, _<_}
 use native.Mathlib.Nat.{add-zero}
 use native.Mathlib.Numerals.{add-one}
 use native.Mathlib.Omega.{arith}
+use native.Mathlib.Decide.{ℕ-discrete}
 use lib.Dec.{eqb}
 use lib.ListN.{length, getD, take, drop}
-use lib.Seq.{ext-getD, take-all, drop-cons, drop-drop, getD-drop}
+use lib.Seq.{take-all, drop-cons, drop-drop, getD-drop}
 use borrow.Author.Tests.{eq-eqb, ne-eqb}
 use Rattle.lists.specs.Lists.{sum, Within}
-use Rattle.lists.specs.Columns.{_⊖_, Below, within, at, totals}
-use Rattle.lists.proofs.Columns.{_!_, at-⊖, at-totals, within-⊖, sum-⊖, below-four, each, four-le, cond-le, length-rowwise}
+use Rattle.lists.specs.Columns.{_⊖_, Below, at, totals}
+use Rattle.lists.proofs.Columns.{_!_, at-⊖, sum-⊖, each, four-le, cond-le, length-rowwise}
 use Rattle.sharing.specs.Sharing.{Rule, share}
 use Rattle.transfer.specs.Transfer.{serve}
 use Rattle.sharing.specs.Laws.{Lawful}
@@ -20,44 +21,19 @@ use Rattle.sharing.proofs.Sharing.{share-lawful}
 use Rattle.blocks.specs.Portion.{portion}
 use Rattle.blocks.specs.Blocks.{Raised, inColumn, inColumns, Room}
 use Rattle.cover.specs.Givers.{gotBy, SentWithin}
-use Rattle.blocks.proofs.Portion.{Fits, portion-under, portion-adds}
-use Rattle.blocks.proofs.Handed.{same-or-not, past-take, next-here, next-there}
+use Rattle.blocks.proofs.Portion.{portion-under, totals-fall}
+use Rattle.cover.proofs.Cover.{sent-first, sent-then}
+use Rattle.blocks.proofs.Handed.{past-take, next-here, next-there}
 
--- ---- one giver
-module _ {rule : Rule} (L : Lawful rule) (subs amounts want : List ℕ) (fits : (j : ℕ) → amounts ! j ≤ totals subs want ! j) where
-  abbrev p : List ℕ
-  p = portion rule subs amounts want
-
-  as-fits : Fits L subs amounts want
-  as-fits s l h = let a = fits (s - 1) in let b = at-totals subs want s l h in omega arith
-
-  pub parts-under : Below p want
-  parts-under = portion-under L subs amounts want as-fits
-
-  -- the sums of what is still open
-  pub totals-fall : length amounts ≤ 4 → totals subs (want ⊖ p) ≡ totals subs want ⊖ amounts
-  unfolding totals
-  totals-fall short =
-      ext-getD 0 (totals subs (want ⊖ p)) (totals subs want ⊖ amounts)
-      (let a = length-rowwise _-_ 0 0 (totals subs want) amounts in omega arith) (λ i h. go i h ∙ sym (at-⊖ (totals subs want) amounts i))
-    where
-      e : (s : ℕ) → 1 ≤ s → s ≤ 4 → sum (within s subs (want ⊖ p)) ≡ sum (within s subs want) - at s amounts 0
-      e s l h =
-          let a = within-⊖ s subs want p parts-under in
-          let b = portion-adds L subs amounts want as-fits s l h in omega arith
-
-      go : (i : ℕ) → i < 4 → totals subs (want ⊖ p) ! i ≡ totals subs want ! i - amounts ! i
-      go =
-          below-four (λ i. totals subs (want ⊖ p) ! i ≡ totals subs want ! i - amounts ! i)
-          (e 1 (omega arith) (omega arith)) (e 2 (omega arith) (omega arith)) (e 3 (omega arith) (omega arith)) (e 4 (omega arith) (omega arith))
-
-  -- and there is room for it
-  pub room-kept : (columns : List ℕ) {figures after : List ℕ} → Room want figures → Raised (inColumns columns subs p) figures after → Room (want ⊖ p) after
-  room-kept columns room r = record {
-    at = λ i j h.
-        let a = r .by i j h in let b = room .at i j h in let c = at-⊖ want p i in let d = parts-under i in
-        let f = cond-le (eqb j (columns ! (subs ! i - 1))) (p ! i) in omega arith;
-  }
+-- what a giver sent is shared over the needs that are still open: there is room for the next
+pub room-kept : {rule : Rule} (L : Lawful rule) (subs amounts want : List ℕ) → Below amounts (totals subs want) → (columns : List ℕ) {figures after : List ℕ}
+    → Room want figures → Raised (inColumns columns subs (portion rule subs amounts want)) figures after → Room (want ⊖ portion rule subs amounts want) after
+room-kept {rule} L subs amounts want fits columns room r = record {
+  at = λ i j h.
+      let p = portion rule subs amounts want in
+      let a = r .by i j h in let b = room .at i j h in let c = at-⊖ want p i in let d = portion-under L subs amounts want fits i in
+      let f = cond-le (eqb j (columns ! (subs ! i - 1))) (p ! i) in omega arith;
+}
 
 -- ---- one giver after the other
 pub record Giving (subs : List ℕ) (table got : List (List ℕ)) (want₀ figures₀ want figures sums : List ℕ) (g : ℕ) : Type 0 where
@@ -109,12 +85,14 @@ module _ {subs : List ℕ} {table got : List (List ℕ)} {want₀ figures₀ wan
   turn : drop g table ≡ row ∷ drop (g + 1) table
   turn = drop-cons table g [] (omega arith) ∙ ap (λ (n : ℕ). row ∷ drop n table) (sym (add-one g))
 
-  pub row-fits : (s : ℕ) → row ! s ≤ sums ! s
-  unfolding sum
-  row-fits s = let a = k .sent s in let b = ap (λ l. sum (map (λ r. getD r s 0) l)) turn in omega arith
+  sent : SentWithin (row ∷ drop (g + 1) table) sums
+  sent = subst (λ l. SentWithin l sums) turn (k .sent)
 
-  fits : (s : ℕ) → row ! s ≤ totals subs want ! s
-  fits s = subst (λ l. row ! s ≤ l ! s) (k .still) (row-fits s)
+  pub row-fits : Below row sums
+  row-fits = sent-first row (drop (g + 1) table) sums sent
+
+  fits : Below row (totals subs want)
+  fits = subst (Below row) (k .still) row-fits
 
   -- what the rows get from this giver, and what is left to the others
   next : parts ∷ serve (portion share subs) (want ⊖ parts) (drop (g + 1) table) ≡ drop g got
@@ -130,7 +108,7 @@ module _ {subs : List ℕ} {table got : List (List ℕ)} {want₀ figures₀ wan
       {want′ figures′ sums′ : List ℕ} (falls : want′ ≡ want ⊖ parts) (raised : Raised (inColumns (g ∷ g ∷ g ∷ g ∷ []) subs parts) figures figures′)
       (lower : sums′ ≡ sums ⊖ row) where
     new-rise : (i j : ℕ) → gotBy (take g got) i j + inColumns (g ∷ g ∷ g ∷ g ∷ []) subs parts i j ≡ gotBy (take (g + 1) got) i j
-    new-rise i j = ⊎-elim here there (same-or-not j g)
+    new-rise i j = by-cases (ℕ-discrete j g) here there
       where
         from : inColumns (g ∷ g ∷ g ∷ g ∷ []) subs parts i j ≡ inColumn g parts i j
         from = ap (λ (c : ℕ). inColumn c parts i j) (all-from g (subs ! i) (inside i))
@@ -148,25 +126,19 @@ module _ {subs : List ℕ} {table got : List (List ℕ)} {want₀ figures₀ wan
             let c : gotBy (take (g + 1) got) i j ≡ gotBy (take g got) i j = ap (λ l. l ! i) (next-there [] got g j e) in
             let d = from in omega arith
 
-    new-sent : SentWithin (drop (g + 1) table) sums′
-    unfolding sum
-    new-sent s =
-        let a = k .sent s in let b = ap (λ l. sum (map (λ r. getD r s 0) l)) turn in
-        let c : sums′ ! s ≡ sums ! s - row ! s = ap (λ l. l ! s) lower ∙ at-⊖ sums row s in omega arith
-
     pub giving-more : Giving subs table got want₀ figures₀ want′ figures′ sums′ (g + 1)
     giving-more =
         record {
           turns = omega arith;
           same = ap length falls ∙ (let a = length-rowwise _-_ 0 0 want parts in let b = k .same in omega arith);
-          less = let a = ap sum falls in let b = sum-⊖ want parts (parts-under share-lawful subs row want fits) in let c = k .less in omega arith;
+          less = let a = ap sum falls in let b = sum-⊖ want parts (portion-under share-lawful subs row want fits) in let c = k .less in omega arith;
           left = ap (λ w. serve (portion share subs) w (drop (g + 1) table)) falls ∙ then-left;
           rises = record {
             same = raised .same ∙ k .rises .same;
             by = λ i j l. let a = raised .by i j l in let b = k .rises .by i j l in let c = new-rise i j in omega arith;
           };
           still = lower ∙ ap (λ l. l ⊖ row) (k .still) ∙ sym (totals-fall share-lawful subs row want fits short) ∙ ap (totals subs) (sym falls);
-          sent = new-sent;
+          sent = subst (SentWithin (drop (g + 1) table)) (sym lower) (sent-then row (drop (g + 1) table) sums sent);
           room = subst (λ w. Room w figures′) (sym falls) (room-kept share-lawful subs row want fits (g ∷ g ∷ g ∷ g ∷ []) (k .room) raised);
         }
 

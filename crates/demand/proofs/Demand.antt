@@ -56,25 +56,19 @@ changed s closes =
       ledger = s .ledger;
     }
 
--- the state that a call's end leaves, by its number
-by-number : {A : Type 0} (f : A → State) (n : ℕ) (done : A) (kept : ℕ → A) (s : State) → ((k : ℕ) → f (kept k) ≡ s) → f (outcome n done kept) ≡ outcome n (f done) (λ _. s)
-unfolding outcome
-by-number f zero done kept s e = refl
-by-number f (suc n) done kept s e = e (suc n)
-
 next-is : (s : State) (c : Call) → next s c ≡ outcome (number s c) (changed s c) (λ _. s)
 unfolding next number changed
 next-is s (opens plants profile tariff) =
-    unfold openCall in by-number (λ (r : OpenEnd). record { month = r .answer .month; ledger = r .ledger }) (openNumber (s .month) plants profile tariff (s .ledger)) _ _ s (λ k. refl)
+    unfold openCall in outcome-part (λ (r : OpenEnd). record { month = r .answer .month; ledger = r .ledger }) (openNumber (s .month) plants profile tariff (s .ledger)) _ _
     ∙ ap (λ (n : ℕ). outcome n (changed s (opens plants profile tariff)) (λ _. s)) (sym (open-number (s .month) plants profile tariff (s .ledger)))
 next-is s (settles plants profile metered lent) =
-    unfold settleCall in by-number (λ (r : SettleEnd). record { month = r .answer .month; ledger = r .ledger }) (settleNumber (s .month) plants profile metered lent (s .ledger)) _ _ s (λ k. refl)
+    unfold settleCall in outcome-part (λ (r : SettleEnd). record { month = r .answer .month; ledger = r .ledger }) (settleNumber (s .month) plants profile metered lent (s .ledger)) _ _
     ∙ ap (λ (n : ℕ). outcome n (changed s (settles plants profile metered lent)) (λ _. s)) (sym (settle-number (s .month) plants profile metered lent (s .ledger)))
 next-is s balances =
-    unfold balanceCall in by-number (λ (r : Balanced). record { month = r .month; ledger = s .ledger }) (balanceNumber (s .month) (s .ledger)) _ _ s (λ k. refl)
+    unfold balanceCall in outcome-part (λ (r : Balanced). record { month = r .month; ledger = s .ledger }) (balanceNumber (s .month) (s .ledger)) _ _
     ∙ ap (λ (n : ℕ). outcome n (changed s balances) (λ _. s)) (sym (balance-number (s .month) (s .ledger)))
 next-is s closes =
-    unfold closeCall in by-number (λ (r : Ended). record { month = r .month; ledger = s .ledger }) (closeNumber (s .month)) _ _ s (λ k. refl)
+    unfold closeCall in outcome-part (λ (r : Ended). record { month = r .month; ledger = s .ledger }) (closeNumber (s .month)) _ _
     ∙ ap (λ (n : ℕ). outcome n (changed s closes) (λ _. s)) (sym (close-number (s .month)))
 
 -- an accepted settle
@@ -94,7 +88,7 @@ module _ (s : State) (t : Tally) (hs : List Hour) (inv : IsTally s t hs) (plants
         addsUp =
             subst (λ (k : ℕ). AddsUp (posted (s .ledger) (hour (s .month .due)) (s .month .tariff)) (hour k ∷ hs))
             (inv .due ∙ ap (λ (n : ℕ). n + 1) (inv .counted))
-            (posted-adds-up (s .ledger) hs (inv .addsUp) (hour (s .month .due)) (ok .sound (s .month .due)) (s .month .tariff));
+            (posted-adds-up (s .ledger) (hour (s .month .due)) (ok .sound (s .month .due)) (s .month .tariff) hs (inv .addsUp));
         counted = let e = inv .counted in omega arith;
         due = ap (λ (n : ℕ). n + 1) (inv .due);
         tariff = inv .tariff;

@@ -2,21 +2,23 @@
 use mathlib.Core.Path.{_≡_, refl, sym, ap, ap₂, _∙_}
 use Prim.Native.Nat.{ℕ, _+_, _-_, _*_}
 use native.Mathlib.Omega.{arith}
-use mathlib.Core.List.{List, [], _∷_, map}
+use mathlib.Core.List.{List, [], _∷_}
 use lib.IntN.{pos, subℕ, _+ℤ_, _*ℤ_, zero-*ℤ}
 use lib.ListN.{getD, take, drop, replicate}
 use Rattle.lists.specs.Columns.{_⊕_, _⊕ℤ_, column}
 use Rattle.lists.specs.Lists.{sum, sumℤ}
 use Rattle.lists.proofs.Columns.{_!_, getD-rowwise, at-⊕, sum-⊕, sum-nil}
-use Rattle.lists.proofs.Rows.{column-at, column-rowwise, row-sum, at-replicate}
+use Rattle.lists.proofs.Rows.{column-place, column-same, column-rowwise, row-sum, at-replicate}
+use Rattle.signed.specs.Figures.{atRate, accountsOf}
+use Rattle.signed.proofs.Accounts.{at-rate, accounts-net, accounts-money}
 use Rattle.signed.proofs.Sums.{plus-sub, sumℤ-⊕, sumℤ-times, sumℤ-nil}
 use Rattle.signed.proofs.View.{plus-swap, times-plus}
-use Rattle.hour.specs.Hour.{Hour, covered, rights, figure, nets, allotment, accounts}
+use Rattle.hour.specs.Hour.{Hour, covered, rights, figure, nets, allotment}
 use Rattle.hour.proofs.Hour.{Sound, column-sum}
-use Rattle.hour.proofs.Figures.{hour-column, hour-row, net-column, money-column, nets-sum, at-nets, net-at, money-at}
+use Rattle.hour.proofs.Figures.{hour-column, hour-row, nets-sum, at-nets}
 use Rattle.ledger.specs.Ledger.{Ledger, zeros, added, netColumn, moneyColumn}
 use Rattle.month.specs.Questions.{posted}
-use Rattle.demand.specs.Tally.{total, rowAllotted, netOf, moneyOf, AddsUp}
+use Rattle.demand.specs.Tally.{rowAllotted, netOf, moneyOf, AddsUp}
 
 -- the four figures of row i, by columns
 row-is : (l : List ℕ) (i : ℕ) → sum (take 4 (drop (4 * i) l)) ≡ column 4 0 l ! i + column 4 1 l ! i + column 4 2 l ! i + column 4 3 l ! i
@@ -25,14 +27,11 @@ row-is l i = row-sum 4 (omega arith) l i ∙ omega arith
 
 -- the net of row i, by columns
 net-is : (l : Ledger) (i : ℕ) → netOf i l ≡ getD (netColumn l) i (pos 0)
-net-is l i = ap (λ (j : ℕ). getD (l .accounts) j (pos 0)) (index i) ∙ sym (column-at 2 0 (omega arith) (l .accounts) i (pos 0))
-  where
-    index : (i : ℕ) → 2 * i ≡ 0 + i * 2
-    index i = omega arith
+net-is l i = sym (column-place 2 0 (omega arith) (l .accounts) i (pos 0) (omega arith))
 
 -- ---- zeros
 pub zeros-add-up : (p : ℕ) → AddsUp (zeros p) []
-unfolding zeros total
+unfolding zeros sum
 zeros-add-up p =
     record {
       columns = λ s l h. sum-nil (column 4 (s - 1) (replicate (4 * p) 0)) (figure (s - 1));
@@ -46,20 +45,26 @@ zeros-add-up p =
     }
   where
     figure : (k i : ℕ) → column 4 k (replicate (4 * p) 0) ! i ≡ 0
-    figure k i = column-at 4 k (omega arith) (replicate (4 * p) 0) i 0 ∙ at-replicate (4 * p) (k + i * 4) 0
+    figure k i = column-same 4 k (omega arith) (4 * p) i 0
 
     account : (k i : ℕ) → getD (column 2 k (replicate (2 * p) (pos 0))) i (pos 0) ≡ pos 0
-    account k i = column-at 2 k (omega arith) (replicate (2 * p) (pos 0)) i (pos 0) ∙ at-replicate (2 * p) (k + i * 2) (pos 0)
+    account k i = column-same 2 k (omega arith) (2 * p) i (pos 0)
 
 -- ---- one hour more
-module _ (l : Ledger) (hs : List Hour) (now : AddsUp l hs) (h : Hour) (ok : Sound h) (tariff : ℕ) where
+module _ (l : Ledger) (h : Hour) (ok : Sound h) (tariff : ℕ) where
   posted-column : (k : ℕ) → column 4 k (posted l h tariff .allotted) ≡ column 4 k (l .allotted) ⊕ column 4 k (allotment h)
   unfolding posted added
   posted-column k = column-rowwise _+_ 0 0 4 k (l .allotted) (allotment h)
 
-  posted-accounts : (k : ℕ) → column 2 k (posted l h tariff .accounts) ≡ column 2 k (l .accounts) ⊕ℤ column 2 k (accounts h tariff)
+  posted-accounts : (k : ℕ) → column 2 k (posted l h tariff .accounts) ≡ column 2 k (l .accounts) ⊕ℤ column 2 k (accountsOf tariff (nets h))
   unfolding posted added
-  posted-accounts k = column-rowwise _+ℤ_ (pos 0) (pos 0) 2 k (l .accounts) (accounts h tariff)
+  posted-accounts k = column-rowwise _+ℤ_ (pos 0) (pos 0) 2 k (l .accounts) (accountsOf tariff (nets h))
+
+  posted-nets : netColumn (posted l h tariff) ≡ netColumn l ⊕ℤ nets h
+  posted-nets = posted-accounts 0 ∙ ap (λ zs. netColumn l ⊕ℤ zs) (accounts-net tariff (nets h))
+
+  posted-money : moneyColumn (posted l h tariff) ≡ moneyColumn l ⊕ℤ atRate tariff (nets h)
+  posted-money = posted-accounts 1 ∙ ap (λ zs. moneyColumn l ⊕ℤ zs) (accounts-money tariff (nets h))
 
   posted-at : (k i : ℕ) → column 4 k (posted l h tariff .allotted) ! i ≡ column 4 k (l .allotted) ! i + column 4 k (allotment h) ! i
   posted-at k i = rw posted-column (at-⊕ (column 4 k (l .allotted)) (column 4 k (allotment h)) i)
@@ -73,13 +78,13 @@ module _ (l : Ledger) (hs : List Hour) (now : AddsUp l hs) (h : Hour) (ok : Soun
   posted-net : (i : ℕ) → netOf i (posted l h tariff) ≡ netOf i l +ℤ subℕ (h .metered ! i) (covered h ! i + rights h ! i)
   posted-net i =
       net-is (posted l h tariff) i
-      ∙ ap (λ zs. getD zs i (pos 0)) (posted-accounts 0 ∙ ap (λ zs. column 2 0 (l .accounts) ⊕ℤ zs) (net-column h ok tariff))
+      ∙ ap (λ zs. getD zs i (pos 0)) posted-nets
       ∙ getD-rowwise _+ℤ_ (pos 0) (pos 0) refl (netColumn l) (nets h) i
       ∙ ap₂ (λ x y. x +ℤ y) (sym (net-is l i)) (at-nets h ok i)
 
-  pub posted-adds-up : AddsUp (posted l h tariff) (h ∷ hs)
-  unfolding total
-  posted-adds-up =
+  pub posted-adds-up : (hs : List Hour) → AddsUp l hs → AddsUp (posted l h tariff) (h ∷ hs)
+  unfolding sum
+  posted-adds-up hs now =
       record {
         columns = λ s m n.
             ap sum (posted-column (s - 1) ∙ ap (λ xs. column 4 (s - 1) (l .allotted) ⊕ xs) (hour-column h ok s m n))
@@ -90,12 +95,10 @@ module _ (l : Ledger) (hs : List Hour) (now : AddsUp l hs) (h : Hour) (ok : Soun
             ∙ plus-swap (pos (rowAllotted i l)) (pos (covered h ! i + rights h ! i)) (netOf i l) (subℕ (h .metered ! i) (covered h ! i + rights h ! i))
             ∙ ap₂ (λ x y. x +ℤ y) (now .rows i) (plus-sub (covered h ! i + rights h ! i) (h .metered ! i))
             ∙ ap pos (omega arith);
-        netsZero =
-            ap sumℤ (posted-accounts 0 ∙ ap (λ zs. column 2 0 (l .accounts) ⊕ℤ zs) (net-column h ok tariff))
-            ∙ sumℤ-⊕ (netColumn l) (nets h) ∙ ap₂ (λ x y. x +ℤ y) (now .netsZero) (nets-sum h ok);
+        netsZero = ap sumℤ posted-nets ∙ sumℤ-⊕ (netColumn l) (nets h) ∙ ap₂ (λ x y. x +ℤ y) (now .netsZero) (nets-sum h ok);
         moneyZero =
-            ap sumℤ (posted-accounts 1 ∙ ap (λ zs. column 2 1 (l .accounts) ⊕ℤ zs) (money-column h ok tariff))
-            ∙ sumℤ-⊕ (moneyColumn l) (map (λ z. z *ℤ pos tariff) (nets h))
+            ap sumℤ posted-money
+            ∙ sumℤ-⊕ (moneyColumn l) (atRate tariff (nets h))
             ∙ ap₂ (λ x y. x +ℤ y) (now .moneyZero)
             (sumℤ-times (nets h) tariff ∙ ap (λ z. z *ℤ pos tariff) (nets-sum h ok) ∙ zero-*ℤ (pos tariff));
         coveredMet = λ i. let a = posted-row i in let b = now .coveredMet i in omega arith;
@@ -103,10 +106,7 @@ module _ (l : Ledger) (hs : List Hour) (now : AddsUp l hs) (h : Hour) (ok : Soun
 
 -- each row's money is its net × TEO: from zeros, and hour by hour
 money-is : (l : Ledger) (i : ℕ) → moneyOf i l ≡ getD (moneyColumn l) i (pos 0)
-money-is l i = ap (λ (j : ℕ). getD (l .accounts) j (pos 0)) (index i) ∙ sym (column-at 2 1 (omega arith) (l .accounts) i (pos 0))
-  where
-    index : (i : ℕ) → 2 * i + 1 ≡ 1 + i * 2
-    index i = omega arith
+money-is l i = sym (column-place 2 1 (omega arith) (l .accounts) i (pos 0) (omega arith))
 
 pub zeros-priced : (p tariff i : ℕ) → moneyOf i (zeros p) ≡ netOf i (zeros p) *ℤ pos tariff
 unfolding zeros
@@ -115,15 +115,10 @@ zeros-priced p tariff i =
 
 pub posted-priced : (l : Ledger) (h : Hour) → Sound h → (tariff : ℕ) → ((i : ℕ) → moneyOf i l ≡ netOf i l *ℤ pos tariff)
     → (i : ℕ) → moneyOf i (posted l h tariff) ≡ netOf i (posted l h tariff) *ℤ pos tariff
-unfolding posted added
 posted-priced l h ok tariff so i =
     money-is (posted l h tariff) i
-    ∙ ap (λ zs. getD zs i (pos 0)) (column-rowwise _+ℤ_ (pos 0) (pos 0) 2 1 (l .accounts) (accounts h tariff))
-    ∙ getD-rowwise _+ℤ_ (pos 0) (pos 0) refl (moneyColumn l) (column 2 1 (accounts h tariff)) i
-    ∙ ap₂ (λ x y. x +ℤ y) (sym (money-is l i) ∙ so i) (column-at 2 1 (omega arith) (accounts h tariff) i (pos 0) ∙ money-at h ok tariff i)
+    ∙ ap (λ zs. getD zs i (pos 0)) (posted-money l h ok tariff)
+    ∙ getD-rowwise _+ℤ_ (pos 0) (pos 0) refl (moneyColumn l) (atRate tariff (nets h)) i
+    ∙ ap₂ (λ x y. x +ℤ y) (sym (money-is l i) ∙ so i) (at-rate tariff (nets h) i ∙ ap (λ z. z *ℤ pos tariff) (at-nets h ok i))
     ∙ sym (times-plus (netOf i l) (subℕ (h .metered ! i) (covered h ! i + rights h ! i)) tariff)
-    ∙ ap (λ z. z *ℤ pos tariff)
-    (sym (net-is (posted l h tariff) i
-    ∙ ap (λ zs. getD zs i (pos 0)) (column-rowwise _+ℤ_ (pos 0) (pos 0) 2 0 (l .accounts) (accounts h tariff))
-    ∙ getD-rowwise _+ℤ_ (pos 0) (pos 0) refl (netColumn l) (column 2 0 (accounts h tariff)) i
-    ∙ ap₂ (λ x y. x +ℤ y) (sym (net-is l i)) (column-at 2 0 (omega arith) (accounts h tariff) i (pos 0) ∙ net-at h ok tariff i)))
+    ∙ ap (λ z. z *ℤ pos tariff) (sym (posted-net l h ok tariff i))

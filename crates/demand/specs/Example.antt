@@ -2,7 +2,6 @@
 use mathlib.Core.Path.{_≡_, refl}
 use mathlib.Core.List.{[], _∷_, _++_, flatten}
 use lib.ListN.{replicate}
-use lib.IntN.{pos}
 use Rattle.lists.specs.Lists.{sum, every, atMost}
 use Rattle.lists.specs.Columns.{rowwise, joined, totals, transpose, column}
 use Rattle.lists.specs.Questions.{_then_, firstNo, inRange, outcome}
@@ -11,22 +10,21 @@ use Rattle.sharing.specs.Sharing.{parts, share}
 use Rattle.transfer.specs.Transfer.{serve, transfer}
 use Rattle.blocks.specs.Portion.{portion}
 use Rattle.cover.specs.Cover.{own, ownParts, table, got, rest}
-use Rattle.hour.specs.Hour.{hourOf, modulated, guaranteed, submarkets, guarantees, secondary, covered, deficit, surplus, leftOver, rights, ownCover, coverGot, ownSecondary, secondaryGot, coverTable, secondaryTable, figure, nets, allotment, accounts}
+use Rattle.hour.specs.Hour.{hourOf, modulated, guaranteed, submarkets, guarantees, secondary, covered, deficit, surplus, leftOver, rights, ownCover, coverGot, ownSecondary, secondaryGot, coverTable, secondaryTable, figure, nets, allotment}
 use Rattle.ledger.specs.Ledger.{inBounds, zeros, added}
 use Rattle.figures.specs.Figures.{digits, figure as figureText, minus, signedFigure, commasBefore, byCommas}
 use Rattle.statement.specs.Statement.{line, plantLine, plantLines, totalLine, statementText, roomFor}
 use Rattle.statement.specs.Worked.{plants, first, second, third, total}
 use Rattle.month.specs.declared.Month.{Month}
-use Rattle.month.specs.declared.Stage.the-variants.{Blank, Closed}
-use Rattle.questions.specs.Questions.{sizesNumber, placed, numbered, rowNumber, rowsNumber, lengthsNumber, tablesNumber}
-use Rattle.month.specs.Questions.{isOpen, isBlank, openNumber, ownNumber, meteredNumber, posted, boundsNumber, settleNumber, closeNumber}
+use Rattle.month.specs.declared.Stage.the-variants.{Closed}
+use Rattle.questions.specs.Questions.{sizesNumber, placed, numbered, rowNumber, rowsNumber, lengthsNumber, ledgerNumber, tablesNumber}
+use Rattle.month.specs.Questions.{isOpen, isBlank, openNumber, ownNumber, meteredNumber, inputsNumber, posted, boundsNumber, settleNumber, closeNumber}
 use Rattle.month.specs.Calls.{OpenEnd, SettleEnd, openCall, settleCall, closeCall}
+use Rattle.demand.specs.Worked.{start}
 use Rattle.month.specs.Statement.{dueNumber, sizingNumber, statementNumber, statementOf, statementCall}
 
 abbrev opened : OpenEnd
-opened =
-    openCall (record { stage = Blank; plants = 0; periods = 0; tariff = 0; due = 0 }) plants (180 ∷ []) 1300
-    (record { allotted = replicate 12 1; accounts = replicate 6 (pos 1) })
+opened = openCall (start .month) plants (180 ∷ []) 1300 (start .ledger)
 
 abbrev settled : SettleEnd
 settled = settleCall (opened .answer .month) plants (180 ∷ []) (130 ∷ 20 ∷ 30 ∷ []) (replicate 12 0) (opened .ledger)
@@ -48,5 +46,5 @@ pub record Example : Type 0 where
       }
 
 pub example : Example
-unfolding rowwise sum every atMost joined totals transpose flatten _then_ firstNo inRange outcome parts share serve transfer hourOf modulated guaranteed portion own ownParts table got rest submarkets guarantees secondary covered deficit surplus leftOver rights ownCover coverGot ownSecondary secondaryGot coverTable secondaryTable figure nets allotment accountsOf accounts column isWithin inBounds zeros added posted isOpen isBlank sizesNumber placed numbered rowNumber rowsNumber lengthsNumber tablesNumber openNumber ownNumber meteredNumber boundsNumber settleNumber closeNumber openCall settleCall closeCall digits figureText minus signedFigure commasBefore byCommas line plantLine plantLines totalLine statementText roomFor dueNumber sizingNumber statementNumber statementOf statementCall
+unfolding rowwise sum every atMost joined totals transpose flatten _then_ firstNo inRange outcome parts share serve transfer hourOf modulated guaranteed portion own ownParts table got rest submarkets guarantees secondary covered deficit surplus leftOver rights ownCover coverGot ownSecondary secondaryGot coverTable secondaryTable figure nets allotment accountsOf column isWithin inBounds zeros added posted isOpen isBlank sizesNumber placed numbered rowNumber rowsNumber lengthsNumber ledgerNumber tablesNumber openNumber ownNumber meteredNumber inputsNumber boundsNumber settleNumber closeNumber openCall settleCall closeCall digits figureText minus signedFigure commasBefore byCommas line plantLine plantLines totalLine statementText roomFor dueNumber sizingNumber statementNumber statementOf statementCall
 example = record { stated = refl; short = refl }

@@ -1,7 +1,7 @@
 -- "The tally of a list": calls in a list, the tally from their numbers and arguments alone, and demand 3. Assumes nothing.
 use mathlib.Core.Path.{_≡_}
 use Prim.Native.Nat.{ℕ, _+_, _*_, _≤_}
-use mathlib.Core.List.{List, [], _∷_, _++_}
+use mathlib.Core.List.{List, [], _∷_, _++_, map}
 use mathlib.Core.Option.{Option, none, some}
 use lib.IntN.{ℤ, pos, _+ℤ_, _*ℤ_}
 use lib.ListN.{length, take, drop, getD}
@@ -96,11 +96,6 @@ unfoldable pub summed : ℕ → ℕ → List Hour → Ledger
 summed p tariff [] = zeros p
 summed p tariff (h ∷ hs) = posted (summed p tariff hs) h tariff
 
--- A figure added up over hours
-unfoldable pub total : (Hour → ℕ) → List Hour → ℕ
-total f [] = 0
-total f (h ∷ hs) = f h + total f hs
-
 -- Generation metered in submarket s; generation and covered guarantee of the plant in row i
 abbrev pub meteredIn : ℕ → Hour → ℕ
 meteredIn s h = sum (within s (submarkets h) (h .metered))
@@ -123,11 +118,11 @@ moneyOf i l = getD (l .accounts) (2 * i + 1) (pos 0)
 
 -- A ledger adds up over hours: columns, rows, nets, money, covered guarantees
 pub record AddsUp (l : Ledger) (hs : List Hour) : Type 0 where
-  pub columns : (s : ℕ) → 1 ≤ s → s ≤ 4 → sum (allottedIn s l) ≡ total (meteredIn s) hs
-  pub rows : (i : ℕ) → pos (rowAllotted i l) +ℤ netOf i l ≡ pos (total (meteredOfRow i) hs)
+  pub columns : (s : ℕ) → 1 ≤ s → s ≤ 4 → sum (allottedIn s l) ≡ sum (map (meteredIn s) hs)
+  pub rows : (i : ℕ) → pos (rowAllotted i l) +ℤ netOf i l ≡ pos (sum (map (meteredOfRow i) hs))
   pub netsZero : sumℤ (netColumn l) ≡ pos 0
   pub moneyZero : sumℤ (moneyColumn l) ≡ pos 0
-  pub coveredMet : (i : ℕ) → total (coveredOfRow i) hs ≤ rowAllotted i l
+  pub coveredMet : (i : ℕ) → sum (map (coveredOfRow i) hs) ≤ rowAllotted i l
 
 -- With an accepted open, the ledger is the tally, and adds up over the hours; the month goes with them
 pub record IsTally (s : State) (t : Tally) (hs : List Hour) : Type 0 where

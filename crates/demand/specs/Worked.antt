@@ -16,16 +16,14 @@ use Rattle.transfer.specs.Calls.{noTable, apart, transferNumber, transferCall}
 use Rattle.blocks.specs.Portion.{portion}
 use Rattle.cover.specs.Cover.{own, ownParts, table, got, rest}
 use Rattle.hour.specs.declared.Plant.{Plant}
-use Rattle.hour.specs.Hour.{Hour, hourOf, modulated, guaranteed, submarkets, guarantees, secondary, covered, deficit, surplus, leftOver, rights, ownCover, coverGot, ownSecondary, secondaryGot, coverTable, secondaryTable, figure, nets, allotment, accounts}
+use Rattle.hour.specs.Hour.{Hour, hourOf, modulated, guaranteed, submarkets, guarantees, secondary, covered, deficit, surplus, leftOver, rights, ownCover, coverGot, ownSecondary, secondaryGot, coverTable, secondaryTable, figure, nets, allotment}
 use Rattle.ledger.specs.Ledger.{inBounds, zeros, added}
-use Rattle.month.specs.declared.Stage.the-variants.{Blank, Closed}
-use Rattle.questions.specs.Questions.{sizesNumber, placed, numbered, rowNumber, rowsNumber, lengthsNumber, tablesNumber}
-use Rattle.month.specs.Questions.{isOpen, isBlank, openNumber, ownNumber, meteredNumber, posted, boundsNumber, settleNumber, closeNumber, balanceNumber}
-use Rattle.month.specs.Calls.{openCall, settleCall, balanceCall, closeCall}
+use Rattle.statement.specs.Worked.{plant, plants}
+use Rattle.month.specs.declared.Stage.the-variants.{Closed}
+use Rattle.questions.specs.Questions.{sizesNumber, placed, numbered, rowNumber, rowsNumber, lengthsNumber, ledgerNumber, tablesNumber}
+use Rattle.month.specs.Questions.{isOpen, isBlank, openNumber, ownNumber, meteredNumber, inputsNumber, posted, boundsNumber, settleNumber, closeNumber, balanceNumber}
+use Rattle.month.specs.Calls.{blank, openCall, settleCall, balanceCall, closeCall}
 use Rattle.demand.specs.Tally.{Call, opens, settles, balances, closes, State, number, next, after, Entry, entries}
-
-abbrev plant : ℕ → ℕ → ℕ → Plant
-plant s n q = record { submarket = s; number = n; guarantee = q; loss = 1000000; availability = 1000000 }
 
 -- an hour with one period and the plants 10 and 11 of submarket 1 and 20 of submarket 2
 abbrev hour : ℕ → ℕ → ℕ → ℕ → ℕ → ℕ → ℕ → Hour
@@ -51,7 +49,7 @@ h5 = hour 0 0 0 180 130 20 30
 
 pub record Worked : Type 0 where
   m1 : allotment h1 ≡ 85 ∷ 0 ∷ 0 ∷ 0 ∷ 43 ∷ 0 ∷ 0 ∷ 0 ∷ 22 ∷ 30 ∷ 0 ∷ 0 ∷ []
-  m1·accounts : accounts h1 1300 ≡ pos 45 ∷ pos 58500 ∷ negsuc 22 ∷ negsuc 29899 ∷ negsuc 21 ∷ negsuc 28599 ∷ []
+  m1·accounts : accountsOf 1300 (nets h1) ≡ pos 45 ∷ pos 58500 ∷ negsuc 22 ∷ negsuc 29899 ∷ negsuc 21 ∷ negsuc 28599 ∷ []
   m1·covered : covered h1 ≡ 85 ∷ 43 ∷ 52 ∷ []
   m2 : allotment h2 ≡ 114 ∷ 0 ∷ 0 ∷ 0 ∷ 57 ∷ 0 ∷ 0 ∷ 0 ∷ 29 ∷ 40 ∷ 0 ∷ 0 ∷ []
   m2·secondary : secondary h2 ≡ 30
@@ -71,7 +69,7 @@ pub record Worked : Type 0 where
   m8 : sharingCall 1 (0 ∷ []) (7 ∷ []) ≡ record { number = 25; parts = 7 ∷ [] }
 
 pub worked : Worked
-unfolding rowwise sum every atMost joined totals transpose flatten _then_ firstNo inRange outcome parts share serve transfer apart sharingNumber sharingCall transferNumber transferCall hourOf modulated guaranteed portion own ownParts table got rest submarkets guarantees secondary covered deficit surplus leftOver rights ownCover coverGot ownSecondary secondaryGot coverTable secondaryTable figure nets allotment accountsOf accounts
+unfolding rowwise sum every atMost joined totals transpose flatten _then_ firstNo inRange outcome parts share serve transfer apart sharingNumber sharingCall transferNumber transferCall hourOf modulated guaranteed portion own ownParts table got rest submarkets guarantees secondary covered deficit surplus leftOver rights ownCover coverGot ownSecondary secondaryGot coverTable secondaryTable figure nets allotment accountsOf
 worked =
     record {
       m1 = refl;
@@ -91,26 +89,19 @@ worked =
     }
 
 -- The file's month as a list of calls, with two that are refused: from a blank month and a ledger of ones
-abbrev three : List Plant
-three = plant 1 10 100 ∷ plant 1 11 50 ∷ plant 2 20 60 ∷ []
-
-abbrev start : State
-start =
-    record {
-      month = record { stage = Blank; plants = 0; periods = 0; tariff = 0; due = 0 };
-      ledger = record { allotted = replicate 12 1; accounts = replicate 6 (pos 1) };
-    }
+abbrev pub start : State
+start = record { month = blank; ledger = record { allotted = replicate 12 1; accounts = replicate 6 (pos 1) } }
 
 abbrev calls : List Call
 calls =
-    balances ∷ opens three (180 ∷ []) 1300 ∷ closes ∷ settles three (180 ∷ []) (130 ∷ 20 ∷ 30 ∷ []) (replicate 12 0) ∷ balances ∷ closes ∷ []
+    balances ∷ opens plants (180 ∷ []) 1300 ∷ closes ∷ settles plants (180 ∷ []) (130 ∷ 20 ∷ 30 ∷ []) (replicate 12 0) ∷ balances ∷ closes ∷ []
 
 pub record Listed : Type 0 where
   numbers : map (λ (e : Entry). e .answered) (entries start calls) ≡ 21 ∷ 0 ∷ 20 ∷ 0 ∷ 0 ∷ 0 ∷ []
   allotted : after start calls .ledger .allotted ≡ 85 ∷ 0 ∷ 0 ∷ 0 ∷ 43 ∷ 0 ∷ 0 ∷ 0 ∷ 22 ∷ 30 ∷ 0 ∷ 0 ∷ []
   accounted : after start calls .ledger .accounts ≡ pos 45 ∷ pos 58500 ∷ negsuc 22 ∷ negsuc 29899 ∷ negsuc 21 ∷ negsuc 28599 ∷ []
-  settled : let s = after start (balances ∷ opens three (180 ∷ []) 1300 ∷ closes ∷ []) in
-      let r = settleCall (s .month) three (180 ∷ []) (130 ∷ 20 ∷ 30 ∷ []) (replicate 12 7) (s .ledger) in
+  settled : let s = after start (balances ∷ opens plants (180 ∷ []) 1300 ∷ closes ∷ []) in
+      let r = settleCall (s .month) plants (180 ∷ []) (130 ∷ 20 ∷ 30 ∷ []) (replicate 12 7) (s .ledger) in
       let a = r .answer in
       (a .secondary ≡ 0) × (a .guarantees ≡ 210) × (a .«secondary_table» .rows ≡ noTable)
       × (a .«cover_table» .rows ≡ (0 ∷ 22 ∷ 0 ∷ 0 ∷ []) ∷ replicate 3 (replicate 4 0))
@@ -119,5 +110,5 @@ pub record Listed : Type 0 where
   month : after start calls .month ≡ record { stage = Closed; plants = 3; periods = 1; tariff = 1300; due = 2 }
 
 pub listed : Listed
-unfolding rowwise sum every atMost joined totals transpose flatten _then_ firstNo inRange outcome parts share serve transfer apart sharingNumber sharingCall transferNumber transferCall hourOf modulated guaranteed portion own ownParts table got rest submarkets guarantees secondary covered deficit surplus leftOver rights ownCover coverGot ownSecondary secondaryGot coverTable secondaryTable figure nets allotment accountsOf accounts column sumℤ isWithin inBounds zeros added posted isOpen isBlank sizesNumber placed numbered rowNumber rowsNumber lengthsNumber tablesNumber openNumber ownNumber meteredNumber boundsNumber settleNumber closeNumber balanceNumber openCall settleCall balanceCall closeCall number next after entries
+unfolding rowwise sum every atMost joined totals transpose flatten _then_ firstNo inRange outcome parts share serve transfer apart sharingNumber sharingCall transferNumber transferCall hourOf modulated guaranteed portion own ownParts table got rest submarkets guarantees secondary covered deficit surplus leftOver rights ownCover coverGot ownSecondary secondaryGot coverTable secondaryTable figure nets allotment accountsOf column sumℤ isWithin inBounds zeros added posted isOpen isBlank sizesNumber placed numbered rowNumber rowsNumber lengthsNumber ledgerNumber tablesNumber openNumber ownNumber meteredNumber inputsNumber boundsNumber settleNumber closeNumber balanceNumber openCall settleCall balanceCall closeCall number next after entries
 listed = record { numbers = refl; allotted = refl; accounted = refl; settled = (refl, refl, refl, refl, refl); columns = refl; month = refl }

@@ -3,9 +3,8 @@ use mathlib.Core.Path.{_≡_, refl, sym, ap, _∙_}
 use mathlib.Core.Bool.{Bool, true, false, not}
 use mathlib.Core.List.{List, [], _∷_, _++_, append-assoc, append-nil}
 use Prim.Native.Nat.{ℕ, _+_, _-_, _*_, _/_, _%_, _^_, _≤_, _<_}
-use native.Mathlib.Nat.{le-antisymm}
 use native.Mathlib.Omega.{arith}
-use borrow.Author.Tests.{ltb-true, ltb-false, lt-ltb, ne-eqb, eqb-false, not-true}
+use borrow.Author.Tests.{lt-ltb, ne-eqb, eqb-false, not-true}
 use lib.Dec.{ltb, eqb}
 use lib.ListN.{length, getD, List·getD-append}
 use Rattle.lists.specs.Lists.{every}
@@ -84,14 +83,7 @@ unfolding isDigit leadingZero
 first-above b c bs e z =
     let l = limits 48 57 b e in
     let n : eqb b 48 ≡ false = rw (lt-ltb 1 (length (b ∷ c ∷ bs)) (omega arith)) at z in
-    omega (arith, above 48 b (l .0) (eqb-false b 48 n))
-  where
-    above : (m n : ℕ) → m ≤ n → (n ≡ m → ⊥) → m < n
-    above m n h d = by (ltb m n) refl
-      where
-        by : (t : Bool) → ltb m n ≡ t → m < n
-        by true e = ltb-true m n e
-        by false e = absurd (d (le-antisymm (ltb-false m n e) h))
+    omega (arith, l, eqb-false b 48 n)
 
 figure-only : (bs : List ℕ) → isFigure bs ≡ true → figure (value bs) ≡ bs
 unfolding isFigure value valueFrom every

@@ -1,6 +1,6 @@
 -- Laws of signed figures: what is below zero, and how far. Assumes nothing.
-use mathlib.Core.Path.{_≡_, refl, sym, ap, _∙_}
-use mathlib.Core.Bool.{Bool, true, false, false≢true}
+use mathlib.Core.Path.{_≡_, refl, sym, ap}
+use mathlib.Core.Bool.{true, false, false≢true}
 use mathlib.Core.List.{List, [], _∷_}
 use Prim.Native.Nat.{ℕ, suc, _+_, _^_, _≤_, _<_}
 use native.Mathlib.Omega.{arith}
@@ -40,10 +40,6 @@ module _ (z : ℤ) where
   pub length-above : ltZ z (pos 0) ≡ false → signedFigureLength z ≡ figureLength (natAbs z)
   unfolding signedFigureLength figureLength
   length-above t = ap length (signed-above t)
-
--- a test of what the machine reads
-pub tested : {m z : ℤ} {b : Bool} → m ≡ z → ltZ m (pos 0) ≡ b → ltZ z (pos 0) ≡ b
-tested e t = sym (ap (λ (y : ℤ). ltZ y (pos 0)) e) ∙ t
 
 -- the minus, and the figure behind it
 module _ (z : ℤ) (n : ℕ) (e : n ≡ natAbs z) (text : List ℕ) (at : ℕ) (room : at + signedFigureLength z ≤ length text) {new : List ℕ} {r : ℕ} where

@@ -36,10 +36,7 @@ fn read_digits(field: &[u8]) -> FieldRead
     let mut i: usize = 0;
     while i < field.len() {
         let b = wide(field[i]);
-        if b < 48 {
-            return no_figure();
-        }
-        if 57 < b {
+        if !lists::in_range(48, 57, b) {
             return no_figure();
         }
         value = 10 * value + (b - 48);
@@ -58,10 +55,7 @@ fn has_leading_zero(field: &[u8]) -> bool
 pub fn read_figure(field: &[u8]) -> FieldRead
     ensures { λ r. ⌜ ReadAs (isFigure (now (field .entry))) (now (field .entry)) (r .good) (r .value) ⌝ }
 {
-    if field.len() < 1 {
-        return no_figure();
-    }
-    if 19 < field.len() {
+    if !lists::in_range(1, 19, field.len() as u64) {
         return no_figure();
     }
     if has_leading_zero(field) {

@@ -2,12 +2,13 @@
 use mathlib.Core.Path.{_≡_, refl, sym, subst, _∙_}
 use mathlib.Core.Bool.{Bool, true, false, false≢true, not}
 use mathlib.Core.List.{List}
-use Prim.Native.Nat.{ℕ, zero, suc, _*_, _+_, _≤_}
+use Prim.Native.Nat.{ℕ, zero, suc, _≤_}
 use native.Mathlib.Omega.{arith}
 use borrow.Author.Tests.{eqb-true, eqb-false}
 use lib.Dec.{eqb}
 use lib.ListN.{length}
 use Rattle.lines.specs.Fields.{longest}
+use Rattle.statement.specs.Statement.{roomFor}
 use Rattle.statement.specs.Writing.{Fills}
 use Rattle.file_lines.specs.declared.MonthFile.{MonthFile}
 use Rattle.file_calls.specs.declared.FeedAnswer.{FeedAnswer}
@@ -74,7 +75,7 @@ feed-taken f r part l after k e g =
     record { number = subst (λ (n : ℕ). FileNumber f l n) e k; refused = λ h. absurd (h refl); taken = λ _. g }
 
 pub finish-good : {f : MonthFile} {l : FileLists} {text : List ℕ} {n : ℕ} → FinishNumber f l text n → n ≡ 0
-    → ((longest ≤ length (l .line)) × (128 * 512 + 128 ≤ length text)) × Valid f (l .held)
+    → ((longest ≤ length (l .line)) × (roomFor 512 ≤ length text)) × Valid f (l .held)
 finish-good (def.FinishNumber.narrow r h) e = absurd (omega arith)
 finish-good (def.FinishNumber.wide w k) e = let g = feed-good k e in ((g .0, w (room k (λ t. omega (arith, e, t)))), g .1)
 

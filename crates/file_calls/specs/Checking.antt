@@ -2,10 +2,11 @@
 use mathlib.Core.Path.{_≡_}
 use mathlib.Core.Bool.{Bool, true, false}
 use mathlib.Core.List.{List, [], _∷_, flatten}
-use Prim.Native.Nat.{ℕ, _+_, _*_, _≤_, _<_}
+use Prim.Native.Nat.{ℕ, _≤_, _<_}
 use lib.IntN.{ℤ}
 use lib.ListN.{length}
 use Rattle.lines.specs.Fields.{longest}
+use Rattle.statement.specs.Statement.{roomFor}
 use Rattle.statement.specs.Writing.{Fills}
 use Rattle.file_lines.specs.declared.MonthFile.{MonthFile}
 use Rattle.file_calls.specs.declared.FeedAnswer.{FeedAnswer}
@@ -54,8 +55,8 @@ pub record FedAny (f : MonthFile) (part : List ℕ) (l : FileLists) (r : FeedAns
 
 -- 30, then 22: are 65,664 bytes lent for the text? then 31
 pub data FinishNumber : MonthFile → FileLists → List ℕ → ℕ → Type 0 where
-  narrow : {f : MonthFile} {l : FileLists} {text : List ℕ} → FileRoom l → length text < 128 * 512 + 128 → FinishNumber f l text 22
-  wide : {f : MonthFile} {l : FileLists} {text : List ℕ} {n : ℕ} → (FileRoom l → 128 * 512 + 128 ≤ length text) → FileNumber f l n → FinishNumber f l text n
+  narrow : {f : MonthFile} {l : FileLists} {text : List ℕ} → FileRoom l → length text < roomFor 512 → FinishNumber f l text 22
+  wide : {f : MonthFile} {l : FileLists} {text : List ℕ} {n : ℕ} → (FileRoom l → roomFor 512 ≤ length text) → FileNumber f l n → FinishNumber f l text n
 
 -- Only the text is lent to be written. Refused, nothing is written; else what is printed stands at its front
 pub record FinishedAny (f : MonthFile) (l : FileLists) (text : List ℕ) (r : FinishAnswer) (after : List ℕ) : Type 0 where

@@ -1,9 +1,14 @@
 // Feed and finish for any caller: what they need is decided at run time.
 use file_lines::MonthFile;
+use ledger::ACCOUNTS;
+use ledger::ALLOTTED;
+use lines::fields::LONGEST;
 use month::Month;
 use month::stages::is_open;
+use month::stating::room_for;
 use month_file::feeding::feed;
 use month_file::finishing::finish;
+use questions::periods_in_limits;
 use questions::rows_number;
 ghost use Rattle.file_lines.specs.State.{kept, Lent, Gathering, Counted, Settling, Valid};
 ghost use Rattle.file_calls.specs.Checking.{Decides, fileLists, FileNumber, FedAny, FinishNumber, FinishedAny};
@@ -18,10 +23,10 @@ fn are_lent(columns: &[u64], profile: &[u64], allotted: &[u64], accounts: &[i64]
     if profile.len() < 744 {
         return false;
     }
-    if allotted.len() < 4 * 512 {
+    if allotted.len() < ALLOTTED * 512 {
         return false;
     }
-    if accounts.len() < 2 * 512 {
+    if accounts.len() < ACCOUNTS * 512 {
         return false;
     }
     true
@@ -60,10 +65,7 @@ fn is_counted(month: Month, count: u64) -> bool
     if 512 < month.plants {
         return false;
     }
-    if month.periods < 1 {
-        return false;
-    }
-    if 744 < month.periods {
+    if !periods_in_limits(month.periods) {
         return false;
     }
     if month.periods + 1 < month.due {
@@ -95,8 +97,8 @@ fn is_settling(
     if no != 0 {
         return false;
     }
-    let fours = 4 * rows;
-    let twos = 2 * rows;
+    let fours = ALLOTTED * rows;
+    let twos = ACCOUNTS * rows;
     ledger::in_bounds(&allotted[..fours], &accounts[..twos])
 }
 
@@ -111,7 +113,7 @@ fn is_valid(
     requires { ⌜ Lent (kept (now columns) (now profile) (now allotted) (now accounts)) ⌝ }
     ensures { λ r. ⌜ Decides (Valid file (kept (now (columns .entry)) (now (profile .entry)) (now (allotted .entry)) (now (accounts .entry)))) r ⌝ }
 {
-    if 8192 < file.length {
+    if LONGEST < file.length {
         return false;
     }
     if file.stage == 0 {
@@ -137,7 +139,7 @@ fn file_number(
 ) -> u64
     ensures { λ r. ⌜ FileNumber file (fileLists (now (line .entry)) (now (columns .entry)) (now (profile .entry)) (now (allotted .entry)) (now (accounts .entry))) r ⌝ }
 {
-    if line.len() < 8192 {
+    if line.len() < LONGEST {
         return 30;
     }
     if !are_lent(columns, profile, allotted, accounts) {
@@ -194,7 +196,7 @@ fn finish_number(
     if no == 30 {
         return no;
     }
-    if text.len() < 128 * 512 + 128 {
+    if (text.len() as u64) < room_for(512) {
         return 22;
     }
     no

@@ -1,6 +1,6 @@
 -- The month opened, over its G lines to its close: it is refused, or its calls are the file's, and then it is stated. Assumes nothing.
 use mathlib.Core.Path.{_≡_, refl, sym, ap, ap₂, subst, _∙_}
-use mathlib.Core.Bool.{Bool, true, false, cond, _&&_}
+use mathlib.Core.Bool.{Bool, true, false, cond}
 use mathlib.Core.List.{List, [], _∷_, map, head-eq-of-cons-eq, tail-eq-of-cons-eq}
 use Prim.Native.Nat.{ℕ, zero, suc, _+_, _-_, _*_, _≤_}
 use native.Mathlib.Omega.{arith}
@@ -18,7 +18,7 @@ use Rattle.month.specs.Calls.{SettleEnd, settleCall, closeCall}
 use Rattle.statement.specs.Statement.{statementText}
 use Rattle.demand.specs.Tally as call
 use Rattle.demand.specs.Tally.{State, number, after, entries}
-use Rattle.file_lines.specs.File.{FileLine, whole, Progress, settles, figuresOf, inTurn, taken, refusal, printed, following}
+use Rattle.file_lines.specs.File.{FileLine, whole, Progress, settles, figuresOf, meterTurn, inTurn, taken, refusal, printed, following}
 use Rattle.file_lines.specs.File as file
 use Rattle.file_lines.specs.State.{isRefused}
 use Rattle.file_demand.specs.Sums.{meteredIn, hourCalls, Accepted, Rising, Readable}
@@ -77,16 +77,13 @@ module _ (plants : List Plant) (profile : List ℕ) (m : Month) (l : Ledger) (g 
   abbrev InTurn : Type 0
   InTurn = (lineStart g ≡ 4) × (m .due ≤ m .periods) × (getD (figuresOf g) 0 0 ≡ m .due)
 
-  abbrev turn : Bool
-  turn = eqb (lineStart g) 4 && (leb (m .due) (m .periods) && eqb (getD (figuresOf g) 0 0) (m .due))
-
-  is-turn : turn ≡ true → InTurn
+  is-turn : meterTurn m (lineStart g) (getD (figuresOf g) 0 0) ≡ true → InTurn
   is-turn e =
       let a = both (eqb (lineStart g) 4) _ e in
       let b = both (leb (m .due) (m .periods)) _ (a .1) in
       (eqb-true (lineStart g) 4 (a .0), leb-true (m .due) (m .periods) (b .0), eqb-true (getD (figuresOf g) 0 0) (m .due) (b .1))
 
-  turn-is : InTurn → turn ≡ true
+  turn-is : InTurn → meterTurn m (lineStart g) (getD (figuresOf g) 0 0) ≡ true
   turn-is t = rw (eq-eqb _ _ (t .0), le-leb _ _ (t .1), eq-eqb _ _ (t .2)) refl
 
   module _ (z : end .answer .number ≡ 0) (gs : List (List ℕ)) where

@@ -14,10 +14,10 @@ use Rattle.ledger.specs.Ledger.{zeros}
 use Rattle.month.specs.declared.Month.{Month}
 use Rattle.month.specs.declared.Stage.the-variants.{Open}
 use Rattle.month.specs.Questions.{openNumber}
-use Rattle.month.specs.Calls.{OpenEnd, openCall}
+use Rattle.month.specs.Calls.{blank, OpenEnd, openCall}
 use Rattle.demand.specs.Tally as call
 use Rattle.demand.specs.Tally.{number, after, entries}
-use Rattle.file_lines.specs.File.{FileLine, whole, Sizes, Progress, gathers, figuresOf, inTurn, blank, opened, taken, printed, following}
+use Rattle.file_lines.specs.File.{FileLine, whole, Sizes, Progress, gathers, figuresOf, inTurn, opened, taken, printed, following}
 use Rattle.file_lines.specs.State.{isRefused}
 use Rattle.file_demand.specs.Sums.{profileIn, meteredIn, fileCalls, unopened, Accepted, Rising, Readable}
 use Rattle.month.proofs.Accepted.{open-number}

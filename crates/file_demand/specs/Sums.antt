@@ -11,12 +11,13 @@ use Rattle.hour.specs.declared.Plant.{Plant}
 use Rattle.hour.specs.Hour.{Hour, hourOf}
 use Rattle.ledger.specs.Ledger.{zeros}
 use Rattle.statement.specs.Statement.{statementText}
+use Rattle.month.specs.Calls.{blank}
 use Rattle.demand.specs.Tally.{Call, opens, settles, closes, State, after, Entry, entries, Tally, tally, summed, IsTally}
-use Rattle.file_lines.specs.File.{FileLine, whole, lines, Sizes, figuresOf, plantOf, blank, refusal, settledFile}
+use Rattle.file_lines.specs.File.{FileLine, whole, lines, Sizes, figuresOf, plantOf, refusal, settledFile, sizesNamed}
 
--- what the first line names: '`MRE,1,periods,plants,TEO`'
+-- what the first line names
 abbrev pub sizesIn : List ℕ → Sizes
-sizesIn first = let figures = figuresOf first in record { periods = getD figures 0 0; plants = getD figures 1 0; tariff = getD figures 2 0 }
+sizesIn first = sizesNamed (figuresOf first)
 
 -- 'P lines (submarket, number, Q, loss, availability)': the plant table
 abbrev pub plantsIn : List (List ℕ) → List Plant

@@ -14,12 +14,9 @@ use Rattle.records.specs.Records.{rowsOf, putRow}
 use Rattle.records.proofs.Copied.{length-putRow}
 use Rattle.records.proofs.Figures.{length-rows, rows-put}
 use Rattle.file_lines.specs.declared.MonthFile.{MonthFile}
-use Rattle.file_lines.specs.File.{Progress, Sizes, gathers, plantOf, opened, taken}
-use Rattle.file_lines.specs.State.{Kept, kept, progressOf, Lent, Gathering, Valid, Moved, atStage, Openable, openedOf}
+use Rattle.file_lines.specs.File.{Progress, gathers, plantOf, opened, taken}
+use Rattle.file_lines.specs.State.{Kept, kept, sizesOf, progressOf, Lent, Gathering, Valid, Moved, atStage, Openable, openedOf}
 use Rattle.file_lines.proofs.Moves.{valid-gathering, gathered, moved-as}
-
-abbrev pub sizesOf : MonthFile → Sizes
-sizesOf f = record { periods = f .periods; plants = f .plants; tariff = f .tariff }
 
 pub gathers-is : (f : MonthFile) (k : Kept) → f .stage ≡ 1 → progressOf f k ≡ gathers (sizesOf f) (rowsOf (f .rows) (k .columns)) (take (f .figures) (k .profile))
 unfolding progressOf

@@ -8,11 +8,12 @@ use Rattle.lists.specs.Questions.{outcome}
 use Rattle.lists.proofs.Questions.{refuses, accepts}
 use Rattle.records.specs.Records.{rowsOf}
 use Rattle.month.specs.declared.Month.{Month}
+use Rattle.month.specs.Calls.{blank}
 use Rattle.questions.specs.Questions.{sizesNumber}
 use Rattle.questions.proofs.Asked.{Sizes, sizes}
 use Rattle.file_lines.specs.declared.MonthFile.{MonthFile}
 use Rattle.file_lines.specs.File as file
-use Rattle.file_lines.specs.File.{Progress, gathers, begun, blank}
+use Rattle.file_lines.specs.File.{Progress, gathers, begun}
 use Rattle.file_lines.specs.State.{Kept, progressOf, Lent, Gathering, Settling, Valid, Moved, atStart, atStage, numbered, monthed, atRefusal, atCall}
 
 -- ---- a state, by its stage
@@ -61,15 +62,6 @@ gathered f periods plants tariff rows figures =
 pub refused-is : (f g : MonthFile) (n : ℕ) → g ≡ atStage f 3 → numbered g n ≡ atRefusal f n
 unfolding atRefusal
 refused-is f g n e = ap (λ (h : MonthFile). numbered h n) e
-
--- once a call has answered
-pub call-refused : (f : MonthFile) (n : ℕ) (m : Month) {r : MonthFile} → r ≡ atRefusal f n → (n ≡ 0 → ⊥) → r ≡ atCall f n m
-unfolding atCall
-call-refused f n m e h = refuses n n _ _ _ refl h e
-
-pub call-taken : (f : MonthFile) (n : ℕ) (m : Month) {g : MonthFile} → g ≡ atStage f 2 → n ≡ 0 → monthed g m ≡ atCall f n m
-unfolding atCall
-call-taken f n m e z = accepts n n _ _ _ refl z (ap (λ (g : MonthFile). monthed g m) e)
 
 -- what holds of a state with a refusal, and of one with the month that a call hands back, holds once the call has answered
 pub called : (f : MonthFile) (n : ℕ) (m : Month) (holds : MonthFile → Type 0) → ((n ≡ 0 → ⊥) → holds (atRefusal f n)) → (n ≡ 0 → holds (monthed (atStage f 2) m))

@@ -14,22 +14,18 @@ use Rattle.records.proofs.Figures.{length-rows}
 use Rattle.ledger.specs.Ledger.{Ledger, zeros, inBounds}
 use Rattle.ledger.proofs.Bounds.{zeros-in-bounds}
 use Rattle.month.specs.declared.Month.{Month}
-use Rattle.month.specs.declared.Opened.{Opened}
+use Rattle.month.specs.declared.Ended.{Ended}
 use Rattle.month.specs.declared.Stage.the-variants.{Open}
 use Rattle.questions.specs.Questions.{lengthsNumber, tablesNumber}
 use Rattle.month.specs.Questions.{isOpen, openNumber}
-use Rattle.month.specs.Calls.{OpenEnd, openCall}
+use Rattle.month.specs.Calls.{blank, OpenEnd, openCall}
 use Rattle.month.proofs.Accepted.{open-number}
 use Rattle.month.proofs.Asked as asked
 use Rattle.file_lines.specs.declared.MonthFile.{MonthFile}
 use Rattle.file_lines.specs.File as file
-use Rattle.file_lines.specs.File.{settles, blank, opened}
+use Rattle.file_lines.specs.File.{settles, opened}
 use Rattle.file_lines.specs.State.{Kept, kept, ledgerOf, progressOf, Lent, Moved, atStage, monthed, atRefusal, atCall, Openable, openedOf}
 use Rattle.file_lines.proofs.Moves.{valid-settling, moved-as, refuses-by, called}
-
--- the front of a list that is lent has as many elements as were asked for
-pub front-count {ℓ} : {A : Type ℓ} (n : ℕ) (l : List A) → n ≤ length l → n ≡ length (take n l)
-front-count n l h = sym (length-take-le n l h)
 
 -- of the ledger open asks the lengths alone
 open-alike : (m : Month) (plants : List Plant) (profile : List ℕ) (t : ℕ) (l g : Ledger) → length (l .allotted) ≡ length (g .allotted) → length (l .accounts) ≡ length (g .accounts)
@@ -63,7 +59,7 @@ module _ (k : Kept) (lent : Lent k) (p : ℕ) (few : p ≤ 512) (ys : List ℕ) 
   unfolding ledgerOf
   ledger-after = ap₂ (λ (a : List ℕ) (b : List ℤ). record { allotted = a; accounts = b }) (take-at ys _ (4 * p) fours) (take-at zs _ (2 * p) twos)
 
-module _ (f : MonthFile) (k : Kept) (o : Openable f k) (end : Opened) (ys : List ℕ) (zs : List ℤ)
+module _ (f : MonthFile) (k : Kept) (o : Openable f k) (end : Ended) (ys : List ℕ) (zs : List ℤ)
     (e : _≡_ {A = OpenEnd} (record { answer = end; ledger = record { allotted = ys; accounts = zs } })
     (openCall blank (rowsOf (f .plants) (k .columns)) (take (f .periods) (k .profile)) (f .tariff) (ledgerOf (f .plants) k)))
     (many : length ys ≡ length (take (4 * f .plants) (k .allotted))) (more : length zs ≡ length (take (2 * f .plants) (k .accounts))) where

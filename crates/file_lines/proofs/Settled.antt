@@ -1,21 +1,20 @@
 -- A G line that is settled. Assumes nothing.
 use mathlib.Core.Path.{_≡_, refl, sym, ap, _∙_}
 use mathlib.Core.Bool.{true}
-use mathlib.Core.List.{List, []}
+use mathlib.Core.List.{List}
 use Prim.Native.Nat.{ℕ, _+_, _*_, _≤_}
 use native.Mathlib.Omega.{arith}
 use lib.IntN.{ℤ}
 use lib.ListN.{length, take, replicate, length-replicate}
 use Rattle.lists.specs.Questions.{outcome}
-use Rattle.lists.proofs.Questions.{accepted, parted, asked, both}
+use Rattle.lists.proofs.Questions.{accepted}
 use Rattle.hour.specs.declared.Plant.{Plant}
-use Rattle.hour.specs.Hour.{hourOf, allotment}
 use Rattle.records.specs.Records.{rowsOf}
 use Rattle.records.proofs.Figures.{length-rows}
 use Rattle.ledger.specs.Ledger.{Ledger, inBounds}
 use Rattle.month.specs.declared.Month.{Month}
 use Rattle.month.specs.declared.Settled.{Settled}
-use Rattle.month.specs.Questions.{boundsNumber, settleNumber, posted}
+use Rattle.month.specs.Questions.{settleNumber}
 use Rattle.month.specs.Calls.{SettleEnd, settleCall}
 use Rattle.month.proofs.Accepted.{settle-number}
 use Rattle.month.proofs.Asked as question
@@ -51,14 +50,11 @@ settle-month m plants profile metered lent l z = ap (λ (r : SettleEnd). r .answ
 -- ... and a ledger in its bounds, of a period that was due
 module _ (m : Month) (plants : List Plant) (profile metered lent : List ℕ) (l : Ledger) (z : settleNumber m plants profile metered lent l ≡ 0) where
   settle-due : m .due ≤ m .periods
-  unfolding settleNumber
-  settle-due = question.metered m profile metered (length lent) (parted _ _ (parted _ _ (parted _ _ z .1) .1) .0) .due
+  settle-due = question.settled m plants profile metered lent l z .0 .meter .due
 
   settle-bounded : inBounds (settleCall m plants profile metered lent l .ledger) ≡ true
-  unfolding settleCall settleNumber boundsNumber
-  settle-bounded =
-      let last = parted _ [] (parted _ _ (parted _ _ (parted _ _ z .1) .1) .1) .0 in
-      ap (λ (r : SettleEnd). inBounds (r .ledger)) (accepted _ _ _ z) ∙ both (inBounds l) (inBounds (posted l (hourOf plants profile metered (m .due)) (m .tariff))) (asked _ _ [] tt last .0) .1
+  unfolding settleCall
+  settle-bounded = ap (λ (r : SettleEnd). inBounds (r .ledger)) (accepted _ _ _ z) ∙ question.settled m plants profile metered lent l z .1 .1
 
 module _ (f : MonthFile) (k : Kept) (stage : f .stage ≡ 2) (v : Valid f k) (metered lent : List ℕ) (end : Settled) (ds ys : List ℕ) (zs : List ℤ)
     (few : length lent ≡ 4 * f .month .plants)

@@ -18,8 +18,8 @@ use Rattle.records.specs.Records.{rowsOf}
 use Rattle.records.proofs.Figures.{length-rows}
 use Rattle.file_lines.specs.declared.MonthFile.{MonthFile}
 use Rattle.file_lines.specs.File as file
-use Rattle.file_lines.specs.File.{whole, Progress, begins, settles, inTurn, begun, taken, read}
-use Rattle.file_lines.specs.State.{isRefused, Kept, ledgerOf, progressOf, gatherTurn, meterTurn, turn, Valid, Moved, atRefusal, settledOf, Figured}
+use Rattle.file_lines.specs.File.{whole, Progress, begins, settles, sizesNamed, inTurn, begun, taken, read}
+use Rattle.file_lines.specs.State.{isRefused, Kept, ledgerOf, progressOf, turn, Valid, Moved, atRefusal, settledOf, Figured}
 use Rattle.file_lines.proofs.Moves.{moved-as, refused-moved, refuses-by}
 use Rattle.file_lines.proofs.Gathered.{gathers-is}
 
@@ -46,7 +46,7 @@ module _ (f : MonthFile) (k : Kept) where
   -- ---- the figures of a line in turn
 
   pub sizes-taken : (figures : List ℕ) {r : MonthFile} {q : Kept} → f .stage ≡ 0
-      → Moved f (begun (f .count + 1) (record { periods = getD figures 0 0; plants = getD figures 1 0; tariff = getD figures 2 0 })) r q
+      → Moved f (begun (f .count + 1) (sizesNamed figures)) r q
       → Moved f (taken (f .count + 1) (progressOf f k) figures) r q
   unfolding taken
   sizes-taken figures {r} {q} e m = moved-as f q (m .valid .lent) m refl (ap (λ (p : Progress). taken (f .count + 1) p figures) (sym (begins-is e)))
@@ -80,7 +80,7 @@ module _ (f : MonthFile) (k : Kept) (v : Valid f k) (due : f .stage ≤ 2) where
     first-turn e = rw (begins-is f k e, e)
 
     gather-turn : f .stage ≡ 1 → turn f start (getD figures 0 0) ≡ inTurn (progressOf f k) start figures
-    unfolding turn gatherTurn inTurn
+    unfolding turn inTurn
     gather-turn e =
         let g = v .gathering e in
         rw (
@@ -91,7 +91,7 @@ module _ (f : MonthFile) (k : Kept) (v : Valid f k) (due : f .stage ≤ 2) where
         )
 
     meter-turn : f .stage ≡ 2 → turn f start (getD figures 0 0) ≡ inTurn (progressOf f k) start figures
-    unfolding turn meterTurn inTurn
+    unfolding turn inTurn
     meter-turn e = rw (settles-is f k e, e)
 
     turn-is : turn f start (getD figures 0 0) ≡ inTurn (progressOf f k) start figures
@@ -104,17 +104,17 @@ module _ (f : MonthFile) (k : Kept) (v : Valid f k) (due : f .stage ≤ 2) where
     three e = month-fields n (rw (eqb-true start 1 (rw e at t)) at fits)
 
     five : f .stage ≡ 1 → f .rows < f .plants → n ≡ 5
-    unfolding turn gatherTurn
+    unfolding turn
     five e h = plant-fields n (rw (eqb-true start 2 (rw (e, lt-ltb (f .rows) (f .plants) h) at t)) at fits)
 
     two : f .stage ≡ 1 → f .plants ≤ f .rows → n ≡ 2
-    unfolding turn gatherTurn
+    unfolding turn
     two e h =
         let b = both (eqb start 3) _ (rw (e, le-ltb (f .rows) (f .plants) h) at t) in
         period-fields n (rw (eqb-true start 3 (b .0)) at fits)
 
     more : f .stage ≡ 2 → 2 ≤ n
-    unfolding turn meterTurn
+    unfolding turn
     more e = let b = both (eqb start 4) _ (rw e at t) in meter-fields n (rw (eqb-true start 4 (b .0)) at fits) .0
 
     gathering-some : f .stage ≡ 1 → (t : Bool) → ltb (f .rows) (f .plants) ≡ t → 2 ≤ n
@@ -132,16 +132,17 @@ module _ (f : MonthFile) (k : Kept) (v : Valid f k) (due : f .stage ≤ 2) where
 
 -- ---- the line
 
+-- 26 to 30, with 513 places for its figures
+pub line-number : (line old : List ℕ) {answer : Line} {new : List ℕ} → length old ≡ 513
+    → _≡_ {A = ReadEnd} (record { answer = answer; figures = new }) (readCall line old) → answer .number ≡ readNumber line 513
+line-number line old many e = read-number line old e ∙ ap (readNumber line) many
+
 module _ (f : MonthFile) (k : Kept) (v : Valid f k) (due : f .stage ≤ 2) (line old new : List ℕ) (answer : Line) (many : length old ≡ 513)
     (e : _≡_ {A = ReadEnd} (record { answer = answer; figures = new }) (readCall line old)) where
-  asks : answer .number ≡ readNumber line 513
-  asks = read-number line old e ∙ ap (readNumber line) many
-
-  -- 26 to 30
   pub reading-refused : (r : MonthFile) → r ≡ atRefusal f (answer .number) → (answer .number ≡ 0 → ⊥)
       → Moved f (read (f .count + 1) (progressOf f k) (whole line)) r k
   unfolding read
-  reading-refused r q z = refuses-by f k (v .lent) r (answer .number) (readNumber line 513) _ q asks z
+  reading-refused r q z = refuses-by f k (v .lent) r (answer .number) (readNumber line 513) _ q (line-number line old many e) z
 
   module _ (z : answer .number ≡ 0) where
     abbrev figures : List ℕ
@@ -176,7 +177,7 @@ module _ (f : MonthFile) (k : Kept) (v : Valid f k) (due : f .stage ≤ 2) (line
     reads-as : (t : Bool) → inTurn (progressOf f k) (lineStart line) figures ≡ t
         → read (f .count + 1) (progressOf f k) (whole line) ≡ cond t (taken (f .count + 1) (progressOf f k) figures) (file.refuses (f .count + 1) 31)
     unfolding read
-    reads-as t h = accepted _ _ _ (sym asks ∙ z) ∙ rw h
+    reads-as t h = accepted _ _ _ (sym (line-number line old many e) ∙ z) ∙ rw h
 
     -- out of turn
     pub out-of-turn : (r : MonthFile) → r ≡ atRefusal f 31 → isTurn ≡ false → Moved f (read (f .count + 1) (progressOf f k) (whole line)) r k

@@ -10,9 +10,8 @@ use Rattle.lines.specs.Reading.{lineStart, lineFields, readNumber}
 use Rattle.hour.specs.declared.Plant.{Plant}
 use Rattle.ledger.specs.Ledger.{Ledger, zeros}
 use Rattle.month.specs.declared.Month.{Month}
-use Rattle.month.specs.declared.Stage.the-variants.{Blank}
 use Rattle.questions.specs.Questions.{sizesNumber}
-use Rattle.month.specs.Calls.{openCall, settleCall, closeCall}
+use Rattle.month.specs.Calls.{blank, openCall, settleCall, closeCall}
 use Rattle.statement.specs.Statement.{line, statementText}
 
 -- A line of the file: its bytes, and whether a byte 10 ended it
@@ -65,23 +64,31 @@ plantOf figures =
       availability = getD figures 4 0;
     }
 
--- 31: is a line with this start and these figures in turn? First `MRE,1,` (1), then P lines (2), then H lines (3), then G lines (4); 'An H or G
--- line whose period is not the next is out of turn', and so is any line after the last G
+-- `MRE,1,periods,plants,TEO`: what the first line's figures name
+abbrev pub sizesNamed : List ℕ → Sizes
+sizesNamed figures = record { periods = getD figures 0 0; plants = getD figures 1 0; tariff = getD figures 2 0 }
+
+-- 31, among P lines (start 2) and then H lines (3), with so many plants named, so many rows and so many profile figures read: is a line with this start and
+-- first figure in turn? 'An H or G line whose period is not the next is out of turn'
+abbrev pub gatherTurn : ℕ → ℕ → ℕ → ℕ → ℕ → Bool
+gatherTurn plants rows figures start period = cond (ltb rows plants) (eqb start 2) (eqb start 3 && eqb period (figures + 1))
+
+-- ... among G lines (4): any line after the last is out of turn
+abbrev pub meterTurn : Month → ℕ → ℕ → Bool
+meterTurn m start period = eqb start 4 && (leb (m .due) (m .periods) && eqb period (m .due))
+
+-- ... in the whole, of which `MRE,1,` (1) is the first line
 unfoldable pub inTurn : Progress → ℕ → List ℕ → Bool
 inTurn begins start figures = eqb start 1
-inTurn (gathers s plants profile) start figures =
-    cond (ltb (length plants) (s .plants)) (eqb start 2) (eqb start 3 && eqb (getD figures 0 0) (length profile + 1))
-inTurn (settles plants profile m l) start figures = eqb start 4 && (leb (m .due) (m .periods) && eqb (getD figures 0 0) (m .due))
+inTurn (gathers s plants profile) start figures = gatherTurn (s .plants) (length plants) (length profile) start (getD figures 0 0)
+inTurn (settles plants profile m l) start figures = meterTurn m start (getD figures 0 0)
 inTurn (refuses k n) start figures = false
 
--- 'It puts 2 to 4 on the first line' (`MRE,1,periods,plants,TEO`)
+-- 'It puts 2 to 4 on the first line'
 unfoldable pub begun : ℕ → Sizes → Progress
 begun k s = outcome (sizesNumber (s .plants) (s .periods) (s .tariff)) (gathers s [] []) (refuses k)
 
 -- '.. opens after the last H line': a blank month, and a ledger of zeros
-abbrev pub blank : Month
-blank = record { stage = Blank; plants = 0; periods = 0; tariff = 0; due = 0 }
-
 unfoldable pub opened : ℕ → Sizes → List Plant → List ℕ → Progress
 opened k s plants profile =
     let r = openCall blank plants profile (s .tariff) (zeros (length plants)) in
@@ -95,7 +102,7 @@ settled k plants profile m l metered =
 
 -- the figures of a line in turn, the k-th, are taken: 'the other questions'
 unfoldable pub taken : ℕ → Progress → List ℕ → Progress
-taken k begins figures = begun k (record { periods = getD figures 0 0; plants = getD figures 1 0; tariff = getD figures 2 0 })
+taken k begins figures = begun k (sizesNamed figures)
 taken k (gathers s plants profile) figures =
     cond (ltb (length plants) (s .plants)) (gathers s (plants ++ (plantOf figures ∷ [])) profile)
     (let more = profile ++ (getD figures 1 0 ∷ []) in

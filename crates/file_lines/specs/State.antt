@@ -1,9 +1,9 @@
 -- The state of a month file, and the lent lists, one line after another: how they stand for how far the lines have come. Assumes nothing.
 use mathlib.Core.Path.{_≡_}
 use Prim.Native.Nat.{ℕ, _+_, _*_, _≤_, _<_}
-use mathlib.Core.Bool.{Bool, true, false, cond, _&&_}
+use mathlib.Core.Bool.{Bool, true, false, cond}
 use mathlib.Core.List.{List}
-use lib.Dec.{eqb, leb, ltb}
+use lib.Dec.{eqb}
 use lib.IntN.{ℤ}
 use lib.ListN.{length, take}
 use Rattle.lists.specs.Questions.{outcome}
@@ -13,8 +13,9 @@ use Rattle.lines.specs.Fields.{longest}
 use Rattle.month.specs.declared.Month.{Month}
 use Rattle.questions.specs.Questions.{rowsNumber}
 use Rattle.month.specs.Questions.{isOpen}
+use Rattle.month.specs.Calls.{blank}
 use Rattle.file_lines.specs.declared.MonthFile.{MonthFile}
-use Rattle.file_lines.specs.File.{Progress, begins, gathers, settles, refuses, blank, opened, settled}
+use Rattle.file_lines.specs.File.{Progress, begins, gathers, settles, refuses, opened, settled, Sizes, gatherTurn, meterTurn}
 
 -- The lent lists that hold what was read: the plant table's columns, the profile, the ledger
 pub record Kept : Type 0 where
@@ -30,12 +31,16 @@ kept columns profile allotted accounts = record { columns = columns; profile = p
 unfoldable pub ledgerOf : ℕ → Kept → Ledger
 ledgerOf n k = record { allotted = take (4 * n) (k .allotted); accounts = take (2 * n) (k .accounts) }
 
+-- what the first line named
+abbrev pub sizesOf : MonthFile → Sizes
+sizesOf f = record { periods = f .periods; plants = f .plants; tariff = f .tariff }
+
 -- how far the lines have come; the stages are numbered from 0 as `Progress` names them
 unfoldable pub progressOf : MonthFile → Kept → Progress
 progressOf f k =
     cond (eqb (f .stage) 0) begins
     (cond (eqb (f .stage) 1)
-    (gathers (record { periods = f .periods; plants = f .plants; tariff = f .tariff }) (rowsOf (f .rows) (k .columns)) (take (f .figures) (k .profile)))
+    (gathers (sizesOf f) (rowsOf (f .rows) (k .columns)) (take (f .figures) (k .profile)))
     (cond (eqb (f .stage) 2)
     (settles (rowsOf (f .month .plants) (k .columns)) (take (f .month .periods) (k .profile)) (f .month) (ledgerOf (f .month .plants) k))
     (refuses (f .count) (f .number))))
@@ -156,17 +161,11 @@ atCall f n m = outcome n (monthed (atStage f 2) m) (atRefusal f)
 
 -- ---- a line that is taken
 
--- 31: is a line with this start and first figure in turn, among P and H lines, among G lines, in the whole?
-unfoldable pub gatherTurn : MonthFile → ℕ → ℕ → Bool
-gatherTurn f start period = cond (ltb (f .rows) (f .plants)) (eqb start 2) (eqb start 3 && eqb period (f .figures + 1))
-
-unfoldable pub meterTurn : Month → ℕ → ℕ → Bool
-meterTurn m start period = eqb start 4 && (leb (m .due) (m .periods) && eqb period (m .due))
-
+-- 31: is a line with this start and first figure in turn?
 unfoldable pub turn : MonthFile → ℕ → ℕ → Bool
 turn f start period =
     cond (eqb (f .stage) 0) (eqb start 1)
-    (cond (eqb (f .stage) 1) (gatherTurn f start period)
+    (cond (eqb (f .stage) 1) (gatherTurn (f .plants) (f .rows) (f .figures) start period)
     (cond (eqb (f .stage) 2) (meterTurn (f .month) start period)
     false))
 
@@ -179,8 +178,7 @@ pub record Openable (f : MonthFile) (k : Kept) : Type 0 where
 
 -- the month of the rows and the profile that are kept, opened
 unfoldable pub openedOf : MonthFile → Kept → Progress
-openedOf f k =
-    opened (f .count + 1) (record { periods = f .periods; plants = f .plants; tariff = f .tariff }) (rowsOf (f .plants) (k .columns)) (take (f .periods) (k .profile))
+openedOf f k = opened (f .count + 1) (sizesOf f) (rowsOf (f .plants) (k .columns)) (take (f .periods) (k .profile))
 
 -- the period due, settled with the metered figures of its line
 unfoldable pub settledOf : MonthFile → Kept → List ℕ → Progress

@@ -1,9 +1,11 @@
 // The month is opened after the last H line.
 use crate::MonthFile;
+use ledger::ACCOUNTS;
+use ledger::ALLOTTED;
 use month::Month;
 use month::Stage;
 ghost use mathlib.Core.Path.{_≡_};
-ghost use Rattle.file_lines.specs.File as definition;
+ghost use Rattle.month.specs.Calls as definition;
 ghost use Rattle.file_lines.specs.State.{kept, Moved, Openable, openedOf};
 
 // A blank month.
@@ -32,8 +34,8 @@ pub fn open_month(
 {
     let rows = file.plants as usize;
     let figures = file.periods as usize;
-    let fours = 4 * rows;
-    let twos = 2 * rows;
+    let fours = ALLOTTED * rows;
+    let twos = ACCOUNTS * rows;
     let month = blank();
     let end = month.open_columns(
         rows,

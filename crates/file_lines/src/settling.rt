@@ -1,5 +1,7 @@
 // A G line is settled.
 use crate::MonthFile;
+use ledger::ACCOUNTS;
+use ledger::ALLOTTED;
 ghost use mathlib.Core.Path.{_≡_};
 ghost use Rattle.file_lines.specs.State.{kept, Valid, Moved, settledOf};
 
@@ -19,8 +21,8 @@ pub fn settle_line(
     let month = file.month;
     let rows = month.plants as usize;
     let figures = month.periods as usize;
-    let fours = 4 * rows;
-    let twos = 2 * rows;
+    let fours = ALLOTTED * rows;
+    let twos = ACCOUNTS * rows;
     let mut allotment = [0u64; 2048];
     let end = month.settle_columns(
         rows,

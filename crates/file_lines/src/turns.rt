@@ -3,7 +3,8 @@ use crate::MonthFile;
 use month::Month;
 ghost use mathlib.Core.Path.{_≡_};
 ghost use Prim.Native.Nat.{_≤_};
-ghost use Rattle.file_lines.specs.State.{gatherTurn, meterTurn, turn};
+ghost use Rattle.file_lines.specs.File.{gatherTurn, meterTurn};
+ghost use Rattle.file_lines.specs.State.{turn};
 
 // 31, of G lines: is it the period due, and is one due?
 fn meter_turn(month: Month, start: u64, period: u64) -> bool
@@ -18,7 +19,7 @@ fn meter_turn(month: Month, start: u64, period: u64) -> bool
 // 31, of P and H lines: is it a P line where rows are missing, and else the next H line?
 fn gather_turn(file: MonthFile, start: u64, period: u64) -> bool
     requires { ⌜ file .figures ≤ 744 ⌝ }
-    ensures { λ r. ⌜ r ≡ gatherTurn file start period ⌝ }
+    ensures { λ r. ⌜ r ≡ gatherTurn (file .plants) (file .rows) (file .figures) start period ⌝ }
 {
     if (file.rows as u64) < file.plants {
         return start == 2;

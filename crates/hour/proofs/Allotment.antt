@@ -1,43 +1,20 @@
 -- Step 8 as the code builds it: min(G, b) in the own submarket, and then what the submarkets supplied, twice. Assumes nothing.
-use mathlib.Core.Path.{_≡_, refl, ap, _∙_}
-use mathlib.Core.Bool.{Bool, true, false, cond}
-use mathlib.Core.List.{List, []}
+use mathlib.Core.Path.{_≡_, ap, _∙_}
+use mathlib.Core.List.{List}
 use Prim.Native.Nat.{ℕ, _+_, _-_, _*_, _^_, min, _≤_}
 use native.Mathlib.Omega.{arith}
 use lib.Dec.{eqb}
 use lib.ListN.{length}
+use lib.Seq.{ext-getD}
 use Rattle.lists.specs.Lists.{sum, most, Within}
-use Rattle.lists.specs.Columns.{_⊕_, _⊓_, inside, within, four, at, byRow}
-use Rattle.lists.proofs.Columns.{_!_, length-rowwise, at-⊕, at-⊓, at-within}
-use Rattle.sharing.specs.Laws.{Lawful}
-use Rattle.sharing.specs.Sharing.{Rule}
-use Rattle.cover.specs.Cover.{ownParts, got, supplied}
-use Rattle.cover.proofs.Cover.{own-sized, got-sized}
+use Rattle.lists.specs.Columns.{_⊕_, _⊓_, inside, within, four, byRow}
+use Rattle.lists.proofs.Columns.{_!_, length-rowwise, at-⊕, at-⊓, at-within, cond-+}
+use Rattle.lists.proofs.Rows.{fours-sized, fours-at, by-fours}
+use Rattle.cover.specs.Cover.{supplied}
+use Rattle.cover.proofs.Cover.{supplied-sized, at-supplied}
 use Rattle.hour.specs.Hour.{Hour, submarkets, covered, deficit, surplus, leftOver, rights, ownCover, coverGot, ownSecondary, secondaryGot, figure, allotment}
 use Rattle.hour.proofs.Hour.{Sound, rows-subs, rows-G, rows-b, rows-d, rows-r, at-home, at-figure, figure-le}
 use Rattle.hour.proofs.Figures.{allotment-at, allotment-sized}
-use Rattle.rows.proofs.Fours.{by-four, by-fours, fours-sized, fours-at}
-
-module _ {rule : Rule} (L : Lawful rule) (subs have want : List ℕ) (same : length want ≡ length subs) where
-  pub supplied-sized : (s : ℕ) → length (supplied rule subs have want s) ≡ length subs
-  unfolding supplied
-  supplied-sized s =
-      length-rowwise _+_ 0 0 (within s subs (ownParts rule subs have want)) (at s (got rule subs have want) [])
-      ∙ (let a = length-rowwise (inside s) 0 0 subs (ownParts rule subs have want) in
-      let b = own-sized L subs have want (omega arith) in
-      let c = got-sized L subs have want (s - 1) (omega arith) in
-      omega arith)
-
-  pub at-supplied : (s i : ℕ) → supplied rule subs have want s ! i
-      ≡ inside s (subs ! i) (ownParts rule subs have want ! i) + at s (got rule subs have want) [] ! i
-  unfolding supplied
-  at-supplied s i =
-      at-⊕ (within s subs (ownParts rule subs have want)) (at s (got rule subs have want) []) i
-      ∙ ap (λ (x : ℕ). x + at s (got rule subs have want) [] ! i) (at-within s subs (ownParts rule subs have want) i)
-
-inside-three : (t : Bool) (x y z : ℕ) → cond t (x + y + z) 0 ≡ cond t x 0 + cond t y 0 + cond t z 0
-inside-three true x y z = refl
-inside-three false x y z = refl
 
 module _ (h : Hour) (ok : Sound h) where
   abbrev subs : List ℕ
@@ -59,32 +36,34 @@ module _ (h : Hour) (ok : Sound h) where
       ∙ (let a = length-rowwise min 0 0 (h .metered) (covered h) in let b = rows-G h ok in let c = rows-b h ok in omega arith)
 
   first-sized : (s : ℕ) → length (first s) ≡ length subs
-  first-sized = supplied-sized (ok .lawful) subs (surplus h) (deficit h) (rows-d h ok)
+  first-sized = supplied-sized (ok .lawful) subs (surplus h) (deficit h) (let e = rows-d h ok in omega arith)
 
   second-sized : (s : ℕ) → length (second s) ≡ length subs
-  second-sized = supplied-sized (ok .lawful) subs (leftOver h) (rights h) (rows-r h ok)
+  second-sized = supplied-sized (ok .lawful) subs (leftOver h) (rights h) (let e = rows-r h ok in omega arith)
 
   figure-is : (s : ℕ) → 1 ≤ s → s ≤ 4 → (i : ℕ) → figure h s ! i ≡ begun s ! i + first s ! i + second s ! i
   unfolding ownCover coverGot ownSecondary secondaryGot
   figure-is s l k i =
       let a = at-figure h ok s l k i in
-      let b = ap (inside s (subs ! i)) (at-home h ok i) ∙ inside-three (eqb (subs ! i) s) (min (h .metered ! i) (covered h ! i)) (ownCover h ! i) (ownSecondary h ! i) in
+      let b = ap (inside s (subs ! i)) (at-home h ok i) ∙ cond-+ (eqb (subs ! i) s) (min (h .metered ! i) (covered h ! i) + ownCover h ! i) (ownSecondary h ! i) in
+      let f = cond-+ (eqb (subs ! i) s) (min (h .metered ! i) (covered h ! i)) (ownCover h ! i) in
       let c = at-within s subs (h .metered ⊓ covered h) i ∙ ap (inside s (subs ! i)) (at-⊓ (h .metered) (covered h) i) in
-      let d = at-supplied (ok .lawful) subs (surplus h) (deficit h) (rows-d h ok) s i in
-      let e = at-supplied (ok .lawful) subs (leftOver h) (rights h) (rows-r h ok) s i in
+      let d = at-supplied (h .rule) subs (surplus h) (deficit h) s i in
+      let e = at-supplied (h .rule) subs (leftOver h) (rights h) s i in
       omega arith
 
   pub allotment-built : allotment h
       ≡ byRow 0 (four begun) ⊕ byRow 0 (four first) ⊕ byRow 0 (four second)
   allotment-built =
-      by-fours n (allotment h) (x ⊕ y ⊕ z) (allotment-sized h ok ∙ (let e = rows-subs h ok in omega arith))
-      (length-rowwise _+_ 0 0 (x ⊕ y) z ∙ (let a = length-rowwise _+_ 0 0 x y in let b = x-sized in let c = y-sized in let d = z-sized in omega arith))
-      (λ s i l k _.
+      ext-getD 0 (allotment h) (x ⊕ y ⊕ z)
+      (let a = length-rowwise _+_ 0 0 x y in let b = x-sized in let c = y-sized in let d = z-sized in let e = rows-subs h ok in
+      let f = allotment-sized h ok in let g = length-rowwise _+_ 0 0 (x ⊕ y) z in omega arith)
+      (λ j _. by-fours (λ j. allotment h ! j ≡ (x ⊕ y ⊕ z) ! j) (λ s l k i.
       let a = allotment-at h ok s l k i in let b = figure-is s l k i in
       let c = at-⊕ (x ⊕ y) z (s - 1 + i * 4) in let d = at-⊕ x y (s - 1 + i * 4) in
       let e = fours-at begun n begun-sized s l k i in
       let f = fours-at first n first-sized s l k i in let g = fours-at second n second-sized s l k i in
-      omega arith)
+      omega arith) j)
     where
       n : ℕ
       n = length subs
@@ -114,14 +93,15 @@ module _ (h : Hour) (ok : Sound h) where
 
     pub begun-small : Within (byRow 0 (four begun)) (2 ^ 62)
     begun-small =
-        by-four (byRow 0 (four begun)) (2 ^ 62) (λ s l k i.
-        let a = fours-at begun (length subs) begun-sized s l k i in let b = begun-le s l k i in omega arith)
+        record { at = by-fours (λ j. byRow 0 (four begun) ! j ≤ 2 ^ 62) (λ s l k i. let a = fours-at begun (length subs) begun-sized s l k i in let b = begun-le s l k i in omega arith) }
 
     pub first-small : Within (byRow 0 (four begun) ⊕ byRow 0 (four first)) (2 ^ 62)
     first-small =
-        by-four (byRow 0 (four begun) ⊕ byRow 0 (four first)) (2 ^ 62) (λ s l k i.
-        let a = at-⊕ (byRow 0 (four begun)) (byRow 0 (four first)) (s - 1 + i * 4) in
-        let b = fours-at begun (length subs) begun-sized s l k i in
-        let c = fours-at first (length subs) first-sized s l k i in
-        let d = begun-le s l k i in
-        omega arith)
+        record {
+          at = by-fours (λ j. (byRow 0 (four begun) ⊕ byRow 0 (four first)) ! j ≤ 2 ^ 62) (λ s l k i.
+              let a = at-⊕ (byRow 0 (four begun)) (byRow 0 (four first)) (s - 1 + i * 4) in
+              let b = fours-at begun (length subs) begun-sized s l k i in
+              let c = fours-at first (length subs) first-sized s l k i in
+              let d = begun-le s l k i in
+              omega arith);
+        }

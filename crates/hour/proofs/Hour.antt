@@ -5,14 +5,13 @@ use mathlib.Core.Bool.{Bool, true, false, cond}
 use Prim.Native.Nat.{ℕ, _+_, _-_, min, _≤_, _<_}
 use native.Mathlib.Omega.{arith}
 use native.Mathlib.Nat.{eq-zero-or-pos}
-use native.Mathlib.Decide.{decLt}
 use mathlib.Core.List.{List, []}
 use lib.Dec.{leb, eqb}
-use lib.ListN.{length, length-map, List·getD-eq-default}
+use lib.ListN.{length, length-map}
 use borrow.Author.Tests.{leb-true, leb-false, eqb-true, eqb-false}
 use Rattle.lists.specs.Columns.{rowwise, _⊕_, _⊖_, _⊓_, joined, inside, beyond, within, outside, at, totals}
 use Rattle.lists.specs.Lists.{sum}
-use Rattle.lists.proofs.Columns.{_!_, length-rowwise, at-⊕, at-⊖, at-⊓, each, sum-⊕, sum-le, sum-ext, sum-nil, joined-four, at-within, at-outside, within-ext, within-⊕, in-and-out, Sited, sited-le, quarters, totals-sum, at-totals}
+use Rattle.lists.proofs.Columns.{_!_, length-rowwise, at-⊕, at-⊖, at-⊓, each, sum-⊕, sum-ext, fewer, sum-nil, joined-four, at-within, at-outside, within-ext, within-⊕, in-and-out, Sited, sited-le, sited-by, quarters, totals-sum, at-totals}
 use Rattle.lists.proofs.Sums.{at-le-sum}
 use Rattle.sharing.specs.Laws.{Lawful}
 use Rattle.sharing.proofs.Sharing.{adds-le}
@@ -79,11 +78,7 @@ module _ (h : Hour) (ok : Sound h) where
   rows-d = length-rowwise _-_ 0 0 b G ∙ (let p = rows-b in let q = rows-G in omega arith)
 
   sited : (xs : List ℕ) → length xs ≤ length subs → Sited subs xs
-  sited xs le i = go (decLt i (length subs))
-    where
-      go : Dec (i < length subs) → (xs ! i ≡ 0) ⊎ ((1 ≤ subs ! i) × (subs ! i ≤ 4))
-      go (yes lt) = inr (ok .placed i (let e = rows-subs in omega arith))
-      go (no ge) = inl (List·getD-eq-default xs 0 (omega arith))
+  sited xs le = sited-by subs xs (length subs) le (λ i lt. ok .placed i (let e = rows-subs in omega arith))
 
   -- step 3: the covered guarantees and the secondary energy add up to the generation
   pub covered-sum : sum b + secondary h ≡ sum G
@@ -280,7 +275,7 @@ module _ (h : Hour) (ok : Sound h) where
   pub surplus-le : sum (surplus h) ≤ sum G
   surplus-le =
       let p = surplus-sum in
-      let q = sum-le d b (λ i. let e : d ! i ≡ b ! i - G ! i = unfold deficit in at-⊖ b G i in omega arith) in
+      let q : sum d ≤ sum b = unfold deficit in fewer b G in
       omega arith
 
   pub leftOver-le : sum (leftOver h) ≤ sum G

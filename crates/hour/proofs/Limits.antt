@@ -1,10 +1,10 @@
 -- An hour in limits is sound, and its sums stay far below 64 bits. Assumes nothing.
-use mathlib.Core.Path.{_≡_, sym, ap, _∙_}
-use mathlib.Core.List.{List}
+use mathlib.Core.Path.{_≡_, sym, ap, _∙_, subst}
+use mathlib.Core.List.{List, map}
 use Prim.Native.Nat.{ℕ, _*_, _^_, _≤_, _<_}
 use native.Mathlib.Omega.{arith}
 use lib.IntN.{ℤ}
-use lib.ListN.{length}
+use lib.ListN.{length, length-map}
 use Rattle.lists.specs.Lists.{sum, table, most}
 use Rattle.lists.proofs.Bounds.{sum-bound}
 use Rattle.sharing.proofs.Sharing.{share-lawful}
@@ -16,7 +16,16 @@ use Rattle.hour.specs.Work.{Workable}
 use Rattle.hour.proofs.Hour.{Sound, rows-a}
 use Rattle.hour.proofs.Table.{length-plants, plants-submarkets}
 use Rattle.hour.proofs.Guarantees.{guarantees-columns}
+use Rattle.blocks.specs.Portion.{Standing}
 use Rattle.blocks.proofs.Blocks.{placed-at}
+use Rattle.hour.specs.declared.Plant.{Plant}
+
+-- plants that stand by submarket, each with a metered figure
+pub sound-of : (plants : List Plant) (profile metered : List ℕ) (k : ℕ) → Standing 0 (map (λ (p : Plant). p .submarket) plants) → length metered ≡ length plants
+    → Sound (hourOf plants profile metered k)
+unfolding hourOf submarkets
+sound-of plants profile metered k standing same =
+    record { lawful = share-lawful; placed = λ i h. placed-at 0 (map (λ (p : Plant). p .submarket) plants) standing i (rw length-map h); metered = same }
 
 pub submarkets-columns : (ss ns gs ls vs profile metered : List ℕ) (k : ℕ) → submarkets (hourOf (plantsOf ss ns gs ls vs) profile metered k) ≡ ss
 unfolding hourOf submarkets
@@ -33,15 +42,9 @@ module _ {ss ns gs ls vs profile : List ℕ} {k : ℕ} {metered lent : List ℕ}
       omega arith
 
   pub sound : Sound h
-  unfolding hourOf
   sound =
-      record {
-        lawful = share-lawful;
-        placed = λ i l.
-            rw (submarkets-columns ss ns gs ls vs profile metered k)
-            (placed-at 0 ss (w .standing) i (let e = length-plants ss ns gs ls vs in omega arith));
-        metered = w .meters ∙ sym (length-plants ss ns gs ls vs);
-      }
+      sound-of (plantsOf ss ns gs ls vs) profile metered k (subst (Standing 0) (sym (plants-submarkets ss ns gs ls vs)) (w .standing))
+      (w .meters ∙ sym (length-plants ss ns gs ls vs))
 
   pub guarantees-are : guarantees h ≡ table (length gs) (guaranteeIn profile k gs ls vs)
   guarantees-are = guarantees-columns profile k ss ns gs ls vs metered (w .equal .guarantees)

@@ -4,7 +4,6 @@ use mathlib.Core.List.{List, [], map}
 use lib.IntN.{ℤ, subℕ}
 use Rattle.lists.specs.Columns.{rowwise, _⊕_, _⊖_, _⊓_, within, outside, four, at, totals, byRow}
 use Rattle.lists.specs.Lists.{sum}
-use Rattle.signed.specs.Figures.{accountsOf}
 use Rattle.sharing.specs.Sharing.{Rule, share}
 use Rattle.cover.specs.Cover.{ownParts, table, got, rest}
 use Rattle.modulation.specs.Guarantee.{modulatedIn, reducedBy}
@@ -89,9 +88,6 @@ module _ (h : Hour) where
   unfoldable pub nets : List ℤ
   nets = rowwise subℕ 0 0 (h .metered) (covered h ⊕ rights)
 
-  -- The allotment list, four figures a plant; net and money (net × TEO), two a plant
+  -- The allotment list, four figures a plant
   unfoldable pub allotment : List ℕ
   allotment = byRow 0 (four figure)
-
-  unfoldable pub accounts : ℕ → List ℤ
-  accounts tariff = accountsOf tariff nets

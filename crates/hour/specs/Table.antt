@@ -5,6 +5,10 @@ use mathlib.Core.List.{List, [], _∷_}
 use lib.ListN.{length, getD, drop}
 use Rattle.hour.specs.declared.Plant.{Plant}
 
+-- what stands past the last record
+abbrev pub none : Plant
+none = record { submarket = 0; number = 0; guarantee = 0; loss = 0; availability = 0 }
+
 -- as many records as the first column has figures
 unfoldable pub plantsOf : List ℕ → List ℕ → List ℕ → List ℕ → List ℕ → List Plant
 plantsOf [] ns gs ls vs = []

@@ -4,7 +4,6 @@ use mathlib.Core.List.{List}
 use Prim.Native.Nat.{ℕ, zero, suc}
 use native.Mathlib.Omega.{arith}
 use Rattle.lists.specs.Questions.{outcome}
-use Rattle.lists.proofs.Questions.{refuses, accepts}
 use Rattle.file_lines.specs.declared.MonthFile.{MonthFile}
 use Rattle.file_calls.specs.declared.FeedAnswer.{FeedAnswer}
 use Rattle.file_calls.specs.declared.FinishAnswer.{FinishAnswer}
@@ -17,14 +16,6 @@ use Rattle.kept_month.proofs.Kept.{months}
 pub files : Files
 unfolding fileOf keptFileOf
 files = record { back = λ f. rw (months .back (f .month)) }
-
-pub back-refused : (n : ℕ) (k : KeptFile) (f : MonthFile) → (n ≡ 0 → ⊥) → k ≡ fileBack n k f
-unfolding fileBack
-back-refused n k f h = refuses n n _ _ _ refl h refl
-
-pub back-taken : (n : ℕ) (k : KeptFile) (f : MonthFile) {after : KeptFile} → n ≡ 0 → after ≡ keptFileOf f → after ≡ fileBack n k f
-unfolding fileBack
-back-taken n k f z e = accepts n n _ _ _ refl z e
 
 module _ (k : KeptFile) (part : List ℕ) (l after : FileLists) {f : MonthFile} {x : FeedAnswer} (p : f ≡ fileOf k) (h : FedAny f part l x after) where
   meant : FedAny (fileOf k) part l x after

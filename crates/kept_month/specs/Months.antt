@@ -8,7 +8,7 @@ use Rattle.lists.specs.Questions.{outcome}
 use Rattle.hour.specs.declared.Plant.{Plant}
 use Rattle.ledger.specs.Ledger.{Ledger}
 use Rattle.month.specs.declared.Month.{Month}
-use Rattle.month.specs.declared.Opened.{Opened}
+use Rattle.month.specs.declared.Ended.{Ended}
 use Rattle.month.specs.declared.Settled.{Settled}
 use Rattle.month.specs.declared.Stated.{Stated}
 use Rattle.month.specs.declared.Sized.{Sized}
@@ -44,9 +44,9 @@ keptOf m = record { stage = stageNumber (m .stage); plants = m .plants; periods 
 unfoldable pub handedBack : ℕ → KeptMonth → Month → KeptMonth
 handedBack number k m = outcome number (keptOf m) (λ _. k)
 
--- open's answer, as C gets it
-unfoldable pub openedKept : KeptMonth → Opened → KeptEnd
-openedKept k r = record { number = r .number; month = handedBack (r .number) k (r .month) }
+-- open's and close's answer, as C gets it
+unfoldable pub endedKept : KeptMonth → Ended → KeptEnd
+endedKept k r = record { number = r .number; month = handedBack (r .number) k (r .month) }
 
 -- settle's answer, as C gets it
 unfoldable pub settledKept : KeptMonth → Settled → KeptSettle
@@ -76,7 +76,7 @@ pub record OpenKeptEnd : Type 0 where
 unfoldable pub openKept : KeptMonth → List Plant → List ℕ → ℕ → Ledger → OpenKeptEnd
 openKept k plants profile tariff l =
     let r = openCall (monthOf k) plants profile tariff l in
-    record { answer = openedKept k (r .answer); ledger = r .ledger }
+    record { answer = endedKept k (r .answer); ledger = r .ledger }
 
 -- settle: the answer, and the allotment list and the ledger afterwards
 pub record SettleKeptEnd : Type 0 where
@@ -91,7 +91,7 @@ settleKept k plants profile metered lent l =
 
 -- close; the ledger has no part in it
 unfoldable pub closeKept : KeptMonth → KeptEnd
-closeKept k = let r = closeCall (monthOf k) in record { number = r .number; month = handedBack (r .number) k (r .month) }
+closeKept k = endedKept k (closeCall (monthOf k))
 
 -- balance, which changes no month
 unfoldable pub balanceKept : KeptMonth → Ledger → KeptBalance

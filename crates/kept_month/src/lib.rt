@@ -1,13 +1,13 @@
 // The month as a C program keeps it, and its calls. A month with an enum cannot cross: C keeps one whose stage is a number.
+use month::Ended;
 use month::Month;
-use month::Opened;
 use month::Settled;
 use month::Sized;
 use month::Stage;
 use month::Stated;
 use transfer::Table;
 ghost use mathlib.Core.Path.{_≡_};
-ghost use Rattle.kept_month.specs.Months.{stageOf, stageNumber, monthOf, keptOf, handedBack, openedKept, settledKept, closeKept, balanceKept, statedKept, sizedKept};
+ghost use Rattle.kept_month.specs.Months.{stageOf, stageNumber, monthOf, keptOf, handedBack, endedKept, settledKept, closeKept, balanceKept, statedKept, sizedKept};
 
 // A month as the caller keeps it. Stage: 0 blank, 1 open, 2 closed; any other number is read as blank.
 #[repr(C)]
@@ -122,14 +122,14 @@ fn handed_back(number: u64, kept: KeptMonth, month: Month) -> KeptMonth
     kept_of(month)
 }
 
-// Open's answer as C gets it.
-pub fn opened_kept(month: KeptMonth, opened: Opened) -> KeptEnd
-    ensures { λ r. ⌜ r ≡ openedKept month opened ⌝ }
+// Open's and close's answer as C gets it.
+pub fn ended_kept(month: KeptMonth, ended: Ended) -> KeptEnd
+    ensures { λ r. ⌜ r ≡ endedKept month ended ⌝ }
 {
-    let after = opened.month;
+    let after = ended.month;
     KeptEnd {
-        number: opened.number,
-        month: handed_back(opened.number, month, after),
+        number: ended.number,
+        month: handed_back(ended.number, month, after),
     }
 }
 
@@ -154,12 +154,8 @@ pub fn settled_kept(month: KeptMonth, settled: Settled) -> KeptSettle
 pub fn close_kept(month: KeptMonth) -> KeptEnd
     ensures { λ r. ⌜ r ≡ closeKept month ⌝ }
 {
-    let end = month_of(month).close();
-    let after = end.month;
-    KeptEnd {
-        number: end.number,
-        month: handed_back(end.number, month, after),
-    }
+    let ended = month_of(month).close();
+    ended_kept(month, ended)
 }
 
 // Month::balance.

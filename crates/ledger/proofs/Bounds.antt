@@ -1,5 +1,5 @@
 -- What a ledger in bounds has, figure by figure. Assumes nothing.
-use mathlib.Core.Path.{_≡_, sym, ap, _∙_, subst}
+use mathlib.Core.Path.{_≡_, ap, subst}
 use mathlib.Core.Bool.{true}
 use mathlib.Core.List.{List}
 use Prim.Native.Nat.{ℕ, zero, suc, _+_, _-_, _*_, _≤_, _<_}
@@ -10,8 +10,7 @@ use lib.ListN.{length, getD, replicate}
 use Rattle.lists.specs.Lists.{Within, atMost, every, sum}
 use Rattle.lists.specs.Columns.{column}
 use Rattle.lists.proofs.Questions.{both, and-both, every-at, every-all, at-most-at, at-most-all}
-use Rattle.lists.proofs.Rows.{column-at, at-replicate}
-use Rattle.lists.proofs.Strides.{by-columns, column-within}
+use Rattle.lists.proofs.Rows.{column-place, column-same, at-replicate, by-columns, column-within}
 use Rattle.signed.specs.Figures.{isWithin}
 use Rattle.signed.proofs.Laws.{within-abs, abs-within}
 use Rattle.ledger.specs.Ledger.{Ledger, inBounds, allottedIn, netColumn, moneyColumn, zeros, allottedWidth, accountsWidth, kwhBound, moneyBound}
@@ -29,9 +28,8 @@ module _ (b : ℕ) (j : ℕ) (l : List ℤ) (e : every (isWithin b) (column acco
   row-near : (i : ℕ) → natAbs (getD (column accountsWidth j l) i (pos 0)) ≤ b
   row-near i = within-abs b _ (every-at (isWithin b) (column accountsWidth j l) (pos 0) (abs-within b (pos 0) (omega arith)) e i)
 
-  place-near : (i k : ℕ) → k ≡ j + i * accountsWidth → natAbs (getD l k (pos 0)) ≤ b
-  place-near i k p =
-      subst (λ (z : ℤ). natAbs z ≤ b) (column-at accountsWidth j (omega arith) l i (pos 0) ∙ ap (λ (n : ℕ). getD l n (pos 0)) (sym p)) (row-near i)
+  place-near : (i : ℕ) {k : ℕ} → k ≡ accountsWidth * i + j → natAbs (getD l k (pos 0)) ≤ b
+  place-near i e = subst (λ (z : ℤ). natAbs z ≤ b) (column-place accountsWidth j (omega arith) l i (pos 0) e) (row-near i)
 
 pub bounded : (l : Ledger) → inBounds l ≡ true → Bounded l
 unfolding inBounds
@@ -40,8 +38,8 @@ bounded l e =
     let q = both (every (isWithin kwhBound) (netColumn l)) _ (p .1) in
     record {
       allotted = record { at = at-most-at (l .allotted) kwhBound (p .0) };
-      net = λ i. place-near kwhBound 0 (l .accounts) (q .0) i (2 * i) (omega arith);
-      money = λ i. place-near moneyBound 1 (l .accounts) (q .1) i (2 * i + 1) (omega arith);
+      net = λ i. place-near kwhBound 0 (l .accounts) (q .0) i (omega arith);
+      money = λ i. place-near moneyBound 1 (l .accounts) (q .1) i (omega arith);
       accounts = record { at = by-columns (λ z. natAbs z ≤ moneyBound) accountsWidth (omega arith) (l .accounts) (pos 0) (columns (q .0) (q .1)) };
     }
   where
@@ -73,4 +71,4 @@ zeros-in-bounds p =
     near : (b j : ℕ) → every (isWithin b) (column accountsWidth j (replicate (accountsWidth * p) (pos 0))) ≡ true
     near b j =
         every-all (isWithin b) (column accountsWidth j (replicate (accountsWidth * p) (pos 0))) (pos 0) (λ i. abs-within b _
-        (let z = ap natAbs (column-at accountsWidth j (omega arith) (replicate (accountsWidth * p) (pos 0)) i (pos 0) ∙ at-replicate (accountsWidth * p) (j + i * accountsWidth) (pos 0)) in omega arith))
+        (let z = ap natAbs (column-same accountsWidth j (omega arith) (accountsWidth * p) i (pos 0)) in omega arith))

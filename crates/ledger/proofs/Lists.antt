@@ -8,13 +8,13 @@ use lib.ListN.{length, getD, set, replicate}
 use Rattle.lists.specs.Lists.{table}
 use Rattle.lists.specs.Columns.{rowwise}
 use Rattle.lists.proofs.Columns.{rowwise-table}
-use Rattle.lists.proofs.Loops.{Tabling, tabled, table-constant, Updating, updating-more, updated}
+use Rattle.lists.proofs.Loops.{Tabling, table-constant, Updating, updating-more, updated}
 use Rattle.lists.proofs.Parts.{whole-written}
+use Rattle.lists.proofs.Written.{written-all}
 
 -- one value stored everywhere
 pub cleared : {A : Type 0} (v : A) {i : ℕ} {out₀ out : List A} → Tabling (λ _. v) (length out₀) i out₀ out → length out₀ ≤ i → out ≡ replicate (length out₀) v
-cleared v {out₀ = out₀} k h =
-    whole-written (length out₀) (table (length out₀) (λ _. v)) out₀ (tabled (λ _. v) k h) (le-refl _) ∙ table-constant (length out₀) v
+cleared v {out₀ = out₀} k h = written-all (λ _. v) k h refl ∙ table-constant (length out₀) v
 
 -- a loop that joins each figure, by f, with that of another list
 module _ {A : Type 0} (f : A → A → A) (d : A) where

@@ -1,16 +1,17 @@
 -- An hour added to the ledger: what its figures are afterwards, and that no sum wraps. Assumes nothing.
 use mathlib.Core.Path.{_≡_, refl, sym, ap, ap₂, _∙_}
 use mathlib.Core.Bool.{_&&_}
-use mathlib.Core.List.{List}
+use mathlib.Core.List.{List, [], _∷_}
 use Prim.Native.Nat.{ℕ, _+_, _*_, _^_, _≤_, _<_}
 use native.Mathlib.Nat.{mul-le-mul}
 use native.Mathlib.Omega.{arith}
 use lib.IntN.{ℤ, pos, natAbs, _+ℤ_, _*ℤ_}
-use lib.ListN.{length, getD, length-map}
+use lib.ListN.{length, getD, drop, drop-of-length-le, length-map}
 use Rattle.lists.specs.Lists.{atMost, every}
 use Rattle.lists.specs.Columns.{_⊕_, _⊕ℤ_, column}
 use Rattle.lists.proofs.Columns.{getD-rowwise, length-rowwise}
-use Rattle.lists.proofs.Rows.{column-at, column-rowwise, length-column}
+use Rattle.lists.proofs.Loops.{drop-more}
+use Rattle.lists.proofs.Rows.{column-place, column-rowwise, length-column}
 use Rattle.signed.specs.Figures.{accountsOf, isWithin, atRate}
 use Rattle.signed.proofs.Accounts.{at-rate, rate-one, accounts-net, accounts-money}
 use Rattle.signed.proofs.View.{abs-times}
@@ -25,21 +26,28 @@ module _ {accounts nets : List ℤ} {rate : ℕ} (h : Payable accounts nets rate
       omega (arith, abs-times (getD nets i (pos 0)) rate, mul-le-mul {m₂ = 10000} (h .hour .at i) (h .low))
 
 -- a column with each row's net added at a rate
-module _ (accounts nets : List ℤ) (rate start : ℕ) (h : Payable accounts nets rate) (k : start < accountsWidth) where
-  abbrev pub after : List ℤ
-  after = column accountsWidth start accounts ⊕ℤ atRate rate nets
+abbrev pub after : List ℤ → List ℤ → ℕ → ℕ → List ℤ
+after accounts nets rate start = column accountsWidth start accounts ⊕ℤ atRate rate nets
 
-  pub length-after : length after ≡ length nets
+module _ (accounts nets : List ℤ) (rate start : ℕ) (h : Payable accounts nets rate) (k : start < accountsWidth) where
+  length-after : length (after accounts nets rate start) ≡ length nets
   length-after =
       length-rowwise _+ℤ_ (pos 0) (pos 0) (column accountsWidth start accounts) (atRate rate nets)
       ∙ (let a = length-column (pos 0) accountsWidth start k accounts (length nets) (h .rows) in let b = length-map nets (λ z. z *ℤ pos rate) in omega arith)
 
-  pub after-at : (i : ℕ) → getD after i (pos 0) ≡ getD accounts (accountsWidth * i + start) (pos 0) +ℤ getD nets i (pos 0) *ℤ pos rate
+  -- a loop over the rows: a turn, and the end
+  pub after-more : {i : ℕ} → i < length nets
+      → drop i (after accounts nets rate start) ≡ getD (after accounts nets rate start) i (pos 0) ∷ drop (i + 1) (after accounts nets rate start)
+  after-more {i} l = drop-more (after accounts nets rate start) i (pos 0) (omega (arith, length-after))
+
+  pub after-none : {i : ℕ} → length nets ≤ i → drop i (after accounts nets rate start) ≡ []
+  after-none {i} l = drop-of-length-le (after accounts nets rate start) {i = i} (omega (arith, length-after))
+
+  pub after-at : (i : ℕ) → getD (after accounts nets rate start) i (pos 0) ≡ getD accounts (accountsWidth * i + start) (pos 0) +ℤ getD nets i (pos 0) *ℤ pos rate
   after-at i =
-      let place : start + i * accountsWidth ≡ accountsWidth * i + start = omega arith in
       getD-rowwise _+ℤ_ (pos 0) (pos 0) refl (column accountsWidth start accounts) (atRate rate nets) i
       ∙ ap₂ (λ x y. x +ℤ y)
-      (column-at accountsWidth start (omega arith) accounts i (pos 0) ∙ ap (λ (n : ℕ). getD accounts n (pos 0)) place)
+      (column-place accountsWidth start (omega arith) accounts i (pos 0) refl)
       (at-rate rate nets i)
 
 -- what the parts of a posting ask for

@@ -8,7 +8,7 @@ use lib.IntN.{ℤ, pos, natAbs, _+ℤ_, +ℤ-assoc, +ℤ-idl, +ℤ-idr}
 use lib.ListN.{length, getD, drop}
 use Rattle.lists.specs.Lists.{sumℤ}
 use Rattle.lists.specs.Columns.{column}
-use Rattle.lists.proofs.Strides.{stride, stride-more, stride-none}
+use Rattle.lists.proofs.Rows.{stride, stride-more, stride-none}
 use Rattle.signed.proofs.View.{abs-plus}
 use Rattle.ledger.specs.Ledger.{accountsWidth, moneyBound}
 use Rattle.ledger.specs.Posting.{Summable}
@@ -27,8 +27,8 @@ module _ {start : ℕ} {l : List ℤ} where
   totalling = record { whole = +ℤ-idl _ ∙ sym (ap sumℤ (stride accountsWidth start l)); small = omega arith }
 
   module _ (ok : Summable l) {i : ℕ} {z : ℤ} (k : Totalling start l i z) (h : i < length l) where
-    pub totalling-small : natAbs (z +ℤ getD l i (pos 0)) < 2 ^ 63
-    totalling-small = omega (arith, abs-plus z (getD l i (pos 0)), ok .small .at i)
+    pub totalling-small : natAbs z + natAbs (getD l i (pos 0)) < 2 ^ 63
+    totalling-small = omega (arith, ok .small .at i)
 
     pub totalling-more : Totalling start l (i + accountsWidth) (z +ℤ getD l i (pos 0))
     totalling-more =

@@ -48,7 +48,6 @@ pub fn zero_accounts(accounts: &mut [i64])
 
 // Is every figure of the column that starts at `start` within a bound of zero?
 fn column_within(bound: u64, start: usize, accounts: &[i64]) -> bool
-    requires { ⌜ bound < 2 ^ 63 ⌝ }
     ensures { λ r. ⌜ r ≡ every (isWithin bound) (column accountsWidth start (now (accounts .entry))) ⌝ }
 {
     let mut i = start;
@@ -103,7 +102,7 @@ fn add_figures(figures: &mut [u64], more: &[u64])
 
 // Is every figure of the column that starts at `start` within a bound of zero, with each row's net added at a rate?
 fn column_within_after(bound: u64, start: usize, accounts: &[i64], nets: &[i64], rate: u64) -> bool
-    requires { ⌜ (bound < 2 ^ 63) × (start < accountsWidth) × Payable (now accounts) (now nets) rate ⌝ }
+    requires { ⌜ (start < accountsWidth) × Payable (now accounts) (now nets) rate ⌝ }
     ensures { λ r. ⌜ r ≡ every (isWithin bound) (column accountsWidth start (now (accounts .entry)) ⊕ℤ atRate rate (now (nets .entry))) ⌝ }
 {
     let mut i: usize = 0;
@@ -204,7 +203,7 @@ fn account_sum(start: usize, accounts: &[i64]) -> i64
     let mut total: i64 = 0;
     let mut i = start;
     while i < accounts.len() {
-        total += accounts[i];
+        total = signed::plus(total, accounts[i]);
         i += ACCOUNTS;
     }
     total

@@ -10,8 +10,7 @@ use borrow.Author.Tests.{eq-eqb, ne-eqb, eqb-true, eqb-false}
 use lib.Dec.{eqb}
 use lib.ListN.{length, take, drop, getD, length-drop, drop-of-length-le}
 use lib.Seq.{drop-cons, getD-drop, drop-drop, drop-nil, take-all, length-take-le}
-use Rattle.lists.proofs.Questions.{refuses, accepts}
-use Rattle.lines.specs.Fields.{toComma, nextComma, fields, toFirst, fieldNumber, fieldBytes}
+use Rattle.lines.specs.Fields.{toComma, nextComma, fields, toFirst}
 use Rattle.lines.specs.Inner.{firstField, Starts}
 
 -- ---- one byte more
@@ -161,17 +160,6 @@ module _ {l : List ℕ} {index r : ℕ} (s : Starts l index r) where
     pub field-there : getD (fields l) index [] ≡ firstField (drop r l)
     field-there =
         ap (λ (n : ℕ). getD (fields l) n []) (sym (add-zero index)) ∙ sym (getD-drop index (fields l) 0 []) ∙ ap (λ (fs : List (List ℕ)). getD fs 0 []) whole
-
--- ---- what the field call hands back
-
-module _ (l : List ℕ) (index : ℕ) where
-  pub bytes-none : (n : ℕ) → n ≡ fieldNumber l index → 0 < n → [] ≡ fieldBytes l index
-  unfolding fieldBytes
-  bytes-none n e h = refuses n (fieldNumber l index) _ [] _ e (λ z. omega arith) refl
-
-  pub bytes-there : {f : List ℕ} → 0 ≡ fieldNumber l index → f ≡ getD (fields l) index [] → f ≡ fieldBytes l index
-  unfolding fieldBytes
-  bytes-there e p = accepts 0 (fieldNumber l index) _ _ _ e refl p
 
 -- ---- the next comma is the first
 

@@ -1,17 +1,18 @@
 -- Laws of reading: a loop that reads the fields of a line to the front of a list, and what the call answers. Assumes nothing.
 use mathlib.Core.Path.{_≡_, refl, sym, ap, _∙_}
-use mathlib.Core.Bool.{Bool, true, false, false≢true, _&&_}
+use mathlib.Core.Bool.{Bool, true, false, false≢true, _&&_, and-assoc, and-true}
 use mathlib.Core.List.{List, [], _∷_, _++_, map, append-assoc, append-nil}
-use Prim.Native.Nat.{ℕ, zero, suc, _+_, _-_, _≤_, _<_, zero-le}
+use Prim.Native.Nat.{ℕ, _+_, _-_, _≤_, _<_, zero-le}
 use native.Mathlib.Nat.{zero-add}
 use native.Mathlib.Numerals.{add-one}
 use native.Mathlib.Omega.{arith}
 use borrow.Author.Tests.{lt-ltb, le-leb, lt-leb, leb-true, leb-false}
 use lib.Dec.{leb, ltb}
 use lib.ListN.{length, take, drop, set, length-set, length-map, take-append-drop}
-use lib.Seq.{take-suc-set, drop-set-lt, drop-drop, length-take-le, take-at}
+use lib.Seq.{take-suc-set, length-take-le, take-at}
 use Rattle.lists.specs.Lists.{every}
 use Rattle.lists.specs.Questions.{firstNo}
+use Rattle.lists.proofs.Loops.{kept-behind}
 use Rattle.lists.proofs.Questions.{both, refuses, accepts}
 use Rattle.figures.specs.Figures.{value, isFigure, ReadAs}
 use Rattle.lines.specs.Fields.{longest, nextComma, fields}
@@ -22,14 +23,6 @@ use Rattle.lines.proofs.Starts.{too-many}
 use Rattle.lines.proofs.Commas.{fields-more, fields-last, fields-some, field-long, next-high}
 
 -- ---- a loop that reads fields
-
-and-assoc : (a b c : Bool) → ((a && b) && c) ≡ (a && (b && c))
-and-assoc true b c = refl
-and-assoc false b c = refl
-
-and-true : (a : Bool) → (a && true) ≡ a
-and-true true = refl
-and-true false = refl
 
 -- count fields are read, and those from `at` on are left
 pub record Gathering (line : List ℕ) (from : ℕ) (figures₀ : List ℕ) (at : ℕ) (good : Bool) (count : ℕ) (figures : List ℕ) : Type 0 where
@@ -55,7 +48,7 @@ module _ {line : List ℕ} {from : ℕ} {figures₀ : List ℕ} where
     tried = r .said ∙ rw this
 
     still : drop (count + 1) (set figures count v) ≡ drop (count + 1) figures₀
-    still = drop-set-lt (count + 1) figures count v (omega arith) ∙ sym (drop-drop 1 count figures) ∙ ap (drop 1) (g .kept) ∙ drop-drop 1 count figures₀
+    still = kept-behind figures figures₀ count v (g .kept)
 
     front : take (count + 1) (set figures count v) ≡ take count figures ++ (worth (firstField (drop at line)) ∷ [])
     front = rw (add-one, take-suc-set figures count v room, stored)
@@ -181,11 +174,7 @@ module _ {line : List ℕ} {start : ℕ} {list : List ℕ} {count : ℕ} {good :
           too-many start count (k .many many) ∙ sym (too-many (lineStart line) (length (lineFields line)) many)
 
   started : ltb 0 (lineStart line) ≡ true
-  started = lt-ltb 0 (lineStart line) (omega (arith, k .is, pos start (k .some)))
-    where
-      pos : (n : ℕ) → (n ≡ 0 → ⊥) → 0 < n
-      pos zero h = absurd (h refl)
-      pos (suc n) h = omega arith
+  started = lt-ltb 0 (lineStart line) (omega (arith, k .is, k .some))
 
   pub number-28 : countFits start count ≡ false → 28 ≡ readNumber line places
   unfolding readNumber firstNo

@@ -1,18 +1,19 @@
 -- Where a field's bytes lie in the line. Assumes nothing.
 use mathlib.Core.Path.{_≡_, refl, sym, ap, _∙_}
 use mathlib.Core.Bool.{Bool, true, false}
-use mathlib.Core.List.{List, [], _∷_, _++_, map}
+use mathlib.Core.List.{List, [], _∷_, map, map-append}
 use Prim.Native.Nat.{ℕ, suc, _+_, _≤_, _<_}
 use native.Mathlib.Omega.{arith}
-use lib.Dec.{eqb}
+use borrow.Author.Tests.{ltb-true, leb-true, leb-false}
+use lib.Dec.{eqb, leb}
 use lib.ListN.{length, take, drop, length-drop, take-append-drop}
 use denote.Ref.{RefT}
 use Rattle.lists.specs.Lists.{sum}
-use Rattle.lists.proofs.Questions.{refuses, accepts}
+use Rattle.lists.proofs.Questions.{asked, refuses, accepts}
 use Rattle.lists.proofs.Sums.{sum-append}
 use Rattle.lines.specs.Fields.{toFirst, fields, fieldNumber, fieldBytes, startOf, fieldStart, Part}
 use Rattle.lines.specs.Inner.{firstField, Starts}
-use Rattle.lines.proofs.Commas.{fields-some, field-present, field-there, bytes-none, bytes-there}
+use Rattle.lines.proofs.Commas.{fields-some, field-absent, field-there}
 
 -- ---- how many bytes the fields have
 
@@ -32,13 +33,9 @@ all-bytes (b ∷ bs) = by (eqb b 44) refl (all-bytes bs)
     by true e ih = rw e (omega (arith, ih))
     by false e ih = rw e (first-longer b (fields bs) (fields-some bs) ∙ ap suc ih)
 
-map-append : (xs ys : List (List ℕ)) → map length (xs ++ ys) ≡ map length xs ++ map length ys
-map-append [] ys = refl
-map-append (x ∷ xs) ys = ap (λ (r : List ℕ). length x ∷ r) (map-append xs ys)
-
 split-bytes : (i : ℕ) (fs : List (List ℕ)) → sum (map length fs) ≡ sum (map length (take i fs)) + sum (map length (drop i fs))
 split-bytes i fs =
-    ap (λ (r : List (List ℕ)). sum (map length r)) (sym (take-append-drop i fs)) ∙ ap sum (map-append (take i fs) (drop i fs))
+    ap (λ (r : List (List ℕ)). sum (map length r)) (sym (take-append-drop i fs)) ∙ ap sum (map-append length (take i fs) (drop i fs))
     ∙ sum-append (map length (take i fs)) (map length (drop i fs))
 
 -- ---- where a field starts
@@ -55,23 +52,44 @@ starts-there l index r h k e =
 
 -- ---- what the field call hands back
 
-module _ (l : List ℕ) (index : ℕ) where
-  pub start-none : (n : ℕ) → n ≡ fieldNumber l index → 0 < n → 0 ≡ fieldStart l index
+module _ (l : List ℕ) (index : ℕ) {n : ℕ} (e : n ≡ fieldNumber l index) where
+  pub start-none : (n ≡ 0 → ⊥) → 0 ≡ fieldStart l index
   unfolding fieldStart
-  start-none n e h = refuses n (fieldNumber l index) _ 0 _ e (λ z. omega arith) refl
+  start-none h = refuses n (fieldNumber l index) _ 0 _ e h refl
 
-  pub start-there : {r : ℕ} → Starts l index r → r ≤ length l → 0 ≡ fieldNumber l index → r ≡ fieldStart l index
-  unfolding fieldStart
-  start-there {r} s h e = accepts 0 (fieldNumber l index) _ _ _ e refl (starts-there l index r h (field-present s h) (s .there h))
+  pub bytes-none : (n ≡ 0 → ⊥) → [] ≡ fieldBytes l index
+  unfolding fieldBytes
+  bytes-none h = refuses n (fieldNumber l index) _ [] _ e h refl
+
+  module _ (z : n ≡ 0) where
+    pub present : index < length (fields l)
+    unfolding fieldNumber
+    present = ltb-true _ _ (asked _ _ [] tt (asked _ _ _ tt (sym e ∙ z) .1) .0)
+
+    module _ {r : ℕ} (s : Starts l index r) where
+      pub in-line : r ≤ length l
+      in-line = by (leb r (length l)) refl
+        where
+          by : (t : Bool) → leb r (length l) ≡ t → r ≤ length l
+          by true p = leb-true r (length l) p
+          by false p = absurd (omega (arith, field-absent s (leb-false r (length l) p), present))
+
+      pub start-there : r ≡ fieldStart l index
+      unfolding fieldStart
+      start-there = accepts n (fieldNumber l index) _ _ _ e z (starts-there l index r in-line present (s .there in-line))
+
+      pub bytes-there : firstField (drop r l) ≡ fieldBytes l index
+      unfolding fieldBytes
+      bytes-there = accepts n (fieldNumber l index) _ _ _ e z (sym (field-there s in-line))
 
 module _ {line part : RefT (List ℕ)} where
   same-part : {a b : ℕ} {xs ys : List ℕ} → a ≡ b → xs ≡ ys → Part line part a xs → Part line part b ys
   same-part p q i = record { place = i .place ∙ ap (λ (k : ℕ). (line .ptr .0, k + line .ptr .1)) p; content = i .content ∙ q }
 
-  module _ (index : ℕ) where
-    pub part-none : (n : ℕ) → n ≡ fieldNumber (line .now) index → 0 < n → Part line part 0 [] → Part line part (fieldStart (line .now) index) (fieldBytes (line .now) index)
-    part-none n e h = same-part (start-none (line .now) index n e h) (bytes-none (line .now) index n e h)
+  module _ (index : ℕ) {n : ℕ} (e : n ≡ fieldNumber (line .now) index) where
+    pub part-none : (n ≡ 0 → ⊥) → Part line part 0 [] → Part line part (fieldStart (line .now) index) (fieldBytes (line .now) index)
+    part-none h = same-part (start-none (line .now) index e h) (bytes-none (line .now) index e h)
 
-    pub part-there : {r : ℕ} → Starts (line .now) index r → r ≤ length (line .now) → 0 ≡ fieldNumber (line .now) index
-        → Part line part r (firstField (drop r (line .now))) → Part line part (fieldStart (line .now) index) (fieldBytes (line .now) index)
-    part-there s h e = same-part (start-there (line .now) index s h e) (bytes-there (line .now) index e (sym (field-there s h)))
+    pub part-there : n ≡ 0 → {r : ℕ} → Starts (line .now) index r → Part line part r (firstField (drop r (line .now)))
+        → Part line part (fieldStart (line .now) index) (fieldBytes (line .now) index)
+    part-there z s = same-part (start-there (line .now) index e z s) (bytes-there (line .now) index e z s)

@@ -66,13 +66,10 @@ pub fn field_number(line: &[u8], index: u64) -> u64
 fn field_bytes(line: &[u8], index: u64) -> &[u8]
     ensures { λ r. ⌜ Part (line .entry) r (fieldStart (now (line .entry)) index) (fieldBytes (now (line .entry)) index) ⌝ }
 {
-    if LONGEST < line.len() {
+    if field_number(line, index) != 0 {
         return &line[0..0];
     }
     let start = field_start(line, index);
-    if line.len() < start {
-        return &line[0..0];
-    }
     field_at(line, start)
 }
 

@@ -75,7 +75,7 @@ fn count_fits(start: u64, count: usize) -> bool
     if start == 3 {
         return count == 2;
     }
-    2 <= count && count <= 513
+    lists::in_range(2, 513, count as u64)
 }
 
 // Fields as read: how many there are, and whether each is a figure.

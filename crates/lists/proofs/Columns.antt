@@ -3,15 +3,16 @@ use mathlib.Core.Path.{_≡_, refl, sym, ap, _∙_, subst}
 use mathlib.Core.Logic.{_⊎_, inl, inr}
 use Prim.Native.Nat.{ℕ, zero, suc, _+_, _-_, min, max, _≤_, _<_}
 use native.Mathlib.Omega.{arith}
+use native.Mathlib.Decide.{decLt}
 use native.Mathlib.Nat.{le-antisymm, le-of-eq, zero-max, max-zero, suc-max-suc, suc-inj}
 use mathlib.Core.Bool.{Bool, true, false, cond}
 use mathlib.Core.List.{List, [], _∷_, _++_, map}
 use lib.Dec.{eqb}
 use borrow.Author.Tests.{ne-eqb}
-use lib.ListN.{length, getD, List·getD-map}
+use lib.ListN.{length, getD, List·getD-map, List·getD-eq-default}
 use lib.Seq.{ext-getD}
 use Rattle.lists.specs.Lists.{sum, table}
-use Rattle.lists.specs.Columns.{rowwise, _⊕_, _⊖_, _⊓_, joined, inside, beyond, within, outside, at, totals, transpose}
+use Rattle.lists.specs.Columns.{rowwise, _⊕_, _⊖_, _⊓_, joined, inside, beyond, within, outside, four, at, totals, transpose}
 use Rattle.lists.proofs.Sums.{at-le-sum, length-table, getD-table}
 
 infixl 80 _!_
@@ -97,6 +98,9 @@ pub sum-⊖ : (xs ys : List ℕ) → ((i : ℕ) → ys ! i ≤ xs ! i) → sum (
 sum-⊖ xs ys h =
     sym (sum-⊕ (xs ⊖ ys) ys)
     ∙ sum-ext (xs ⊖ ys ⊕ ys) xs (λ i. at-⊕ (xs ⊖ ys) ys i ∙ (let a = h i in let b = at-⊖ xs ys i in omega arith))
+
+pub fewer : (xs ys : List ℕ) → sum (xs ⊖ ys) ≤ sum xs
+fewer xs ys = sum-le (xs ⊖ ys) xs (λ i. let a = at-⊖ xs ys i in omega arith)
 
 pub sum-nil : (xs : List ℕ) → ((i : ℕ) → xs ! i ≡ 0) → sum xs ≡ 0
 unfolding sum
@@ -191,6 +195,10 @@ pub each : (P : ℕ → Type 0) → P 1 → P 2 → P 3 → P 4 → (s : ℕ) �
 each P a b c d zero l h = absurd (omega arith)
 each P a b c d (suc s) l h = below-four (λ i. P (suc i)) a b c d s (omega arith)
 
+-- of one entry for each submarket, that of s
+pub four-at : {A : Type 0} (f : ℕ → A) (d : A) (s : ℕ) → 1 ≤ s → s ≤ 4 → at s (four f) d ≡ f s
+four-at f d = each (λ s. at s (four f) d ≡ f s) refl refl refl refl
+
 -- four figures, each below its bound
 pub four-le : {a b c d : ℕ} (bound : ℕ → ℕ) → a ≤ bound 0 → b ≤ bound 1 → c ≤ bound 2 → d ≤ bound 3 → (i : ℕ) → (a ∷ b ∷ c ∷ d ∷ []) ! i ≤ bound i
 four-le bound p q r s zero = p
@@ -203,7 +211,7 @@ pub cond-same : (b : Bool) → _≡_ {A = ℕ} (cond b 0 0) 0
 cond-same true = refl
 cond-same false = refl
 
-cond-+ : (b : Bool) (x y : ℕ) → cond b (x + y) 0 ≡ cond b x 0 + cond b y 0
+pub cond-+ : (b : Bool) (x y : ℕ) → cond b (x + y) 0 ≡ cond b x 0 + cond b y 0
 cond-+ true x y = refl
 cond-+ false x y = refl
 
@@ -269,6 +277,14 @@ sited-le subs xs ys h s i = go (s i) (h i)
     go (inl z) l = inl (omega arith)
     go (inr r) l = inr r
 
+-- .. by its place among n rows that stand in the four
+pub sited-by : (subs xs : List ℕ) (n : ℕ) → length xs ≤ n → ((i : ℕ) → i < n → (1 ≤ subs ! i) × (subs ! i ≤ 4)) → Sited subs xs
+sited-by subs xs n le placed i = go (decLt i n)
+  where
+    go : Dec (i < n) → (xs ! i ≡ 0) ⊎ ((1 ≤ subs ! i) × (subs ! i ≤ 4))
+    go (yes lt) = inr (placed i lt)
+    go (no ge) = inl (List·getD-eq-default xs 0 (omega arith))
+
 -- the four submarkets' figures of a row are its figure
 pub quarters : (t x : ℕ) → (x ≡ 0) ⊎ ((1 ≤ t) × (t ≤ 4)) → inside 1 t x + inside 2 t x + inside 3 t x + inside 4 t x ≡ x
 quarters t x (inl z) =
@@ -305,22 +321,18 @@ totals-ext subs xs ys h =
 
 pub at-totals : (subs xs : List ℕ) (s : ℕ) → 1 ≤ s → s ≤ 4 → at s (totals subs xs) 0 ≡ sum (within s subs xs)
 unfolding totals
-at-totals subs xs = each (λ s. at s (totals subs xs) 0 ≡ sum (within s subs xs)) refl refl refl refl
+at-totals subs xs = four-at (λ s. sum (within s subs xs)) 0
 
 -- parts of a row, one for each submarket and none above the submarket's figure: only the row's own submarket has one
-pub record Only (t x p q r s : ℕ) : Type 0 where
-  pub in1 : inside 1 t (p + q + r + s) ≡ p
-  pub in2 : inside 2 t (p + q + r + s) ≡ q
-  pub in3 : inside 3 t (p + q + r + s) ≡ r
-  pub in4 : inside 4 t (p + q + r + s) ≡ s
+pub record Only′ (a b c d : Bool) (x p q r s : ℕ) : Type 0 where
+  pub in1 : cond a (p + q + r + s) 0 ≡ p
+  pub in2 : cond b (p + q + r + s) 0 ≡ q
+  pub in3 : cond c (p + q + r + s) 0 ≡ r
+  pub in4 : cond d (p + q + r + s) 0 ≡ s
   pub whole : p + q + r + s ≤ x
 
-record Only′ (a b c d : Bool) (x p q r s : ℕ) : Type 0 where
-  in1 : cond a (p + q + r + s) 0 ≡ p
-  in2 : cond b (p + q + r + s) 0 ≡ q
-  in3 : cond c (p + q + r + s) 0 ≡ r
-  in4 : cond d (p + q + r + s) 0 ≡ s
-  whole : p + q + r + s ≤ x
+abbrev pub Only : (t x p q r s : ℕ) → Type 0
+Only t x p q r s = Only′ (eqb t 1) (eqb t 2) (eqb t 3) (eqb t 4) x p q r s
 
 only′ : {a b c d : Bool} {x p q r s : ℕ} → One a b c d → p ≤ cond a x 0 → q ≤ cond b x 0 → r ≤ cond c x 0 → s ≤ cond d x 0 → Only′ a b c d x p q r s
 only′ is1 h i j k = omega arith
@@ -330,6 +342,4 @@ only′ is4 h i j k = omega arith
 only′ other h i j k = omega arith
 
 pub only : (t x p q r s : ℕ) → p ≤ inside 1 t x → q ≤ inside 2 t x → r ≤ inside 3 t x → s ≤ inside 4 t x → Only t x p q r s
-only t x p q r s h i j k =
-    let o = only′ {x = x} {p = p} {q = q} {r = r} {s = s} (one t) h i j k in
-    record { in1 = o .in1; in2 = o .in2; in3 = o .in3; in4 = o .in4; whole = o .whole }
+only t x p q r s = only′ (one t)

@@ -6,5 +6,4 @@ pub mod Parts
 pub mod Bounds
 pub mod Columns
 pub mod Rows
-pub mod Strides
 pub mod Written

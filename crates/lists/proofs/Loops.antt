@@ -1,7 +1,10 @@
 -- Loops over slices, one turn for each element.
 --   A loop that reads. Its invariant says what is left, for any function of the list that is left, as `s + sum (drop i l) ≡ sum l`.
---     rest-more       a turn takes one element from what is left
---     rest-none       at the end nothing is left
+--     drop-more, rest-more    a turn takes one element from what is left; of a column: Rows.stride-more
+--     rest-none               at the end nothing is left; of a column: Rows.stride-none
+--   A loop that sums, s so far: `Adding l rest s`; the laws are adding, adding-more, adding-le, added.
+--   A loop that puts a test to each element and stops at the first that fails: `Passing p l rest`; the laws are passing, passing-more, halted,
+--   passed; of figures that must be at most n, `Limiting n l i`, with limiting, limiting-more, exceeded, limited.
 --   A loop that fills out[0..n], one store a turn. Its invariant is `Filling n i out₀ all out rest`: with rest, which is still to be written,
 --   in the place of out[i..n], out is all.
 --     filling         where the loop begins
@@ -9,8 +12,6 @@
 --     filling-kept    what stands at i and behind has not been written yet
 --     filled          at the end
 --   A loop that stores f i at i, for any f. Its invariant is `Tabling f n i out₀ out`; the laws are tabling, tabling-more, tabled.
---   A loop that puts a test to each element and stops at the first that fails: `Passing p l i`; the laws are passing,
---   passing-more, halted, passed; of figures that must be at most n, `Limiting n l i`, with limiting, limiting-more, exceeded, limited.
 -- Assumes nothing.
 use mathlib.Core.Path.{_≡_, refl, sym, ap, _∙_}
 use mathlib.Core.Bool.{Bool, true, false, _&&_}
@@ -28,15 +29,22 @@ use mir.Val.{Fits}
 use borrow.Author.Tests.{le-leb, lt-leb}
 use Rattle.lists.specs.Lists.{sum, table, tableFrom, between, every, atMost}
 
+pub drop-more {ℓ} : {A : Type ℓ} (l : List A) (i : ℕ) (d : A) → i < length l → drop i l ≡ getD l i d ∷ drop (i + 1) l
+drop-more l i d h = rw (add-one, drop-cons l i d)
+
 module _ {ℓ κ} {A : Type ℓ} {R : Type κ} (f : List A → R) where
   pub rest-more : (l : List A) (i : ℕ) (d : A) → i < length l → f (drop i l) ≡ f (getD l i d ∷ drop (i + 1) l)
-  rest-more l i d h = rw (add-one, drop-cons l i d)
+  rest-more l i d h = ap f (drop-more l i d h)
 
   pub rest-none : (l : List A) (i : ℕ) → length l ≤ i → f (drop i l) ≡ f []
   rest-none l i h = ap f (drop-of-length-le l h)
 
 at-drop {ℓ} : {A : Type ℓ} (l : List A) (i : ℕ) (d : A) → getD (drop i l) 0 d ≡ getD l i d
 at-drop l i d = getD-drop i l 0 d ∙ rw add-zero
+
+-- a store at i leaves what stands behind
+pub kept-behind {ℓ} : {A : Type ℓ} (out out₀ : List A) (i : ℕ) (v : A) → drop i out ≡ drop i out₀ → drop (i + 1) (set out i v) ≡ drop (i + 1) out₀
+kept-behind out out₀ i v e = drop-set-lt (i + 1) out i v (omega arith) ∙ sym (drop-drop 1 i out) ∙ ap (drop 1) e ∙ drop-drop 1 i out₀
 
 pub record Filling {ℓ} {A : Type ℓ} (n i : ℕ) (out₀ all out rest : List A) : Type ℓ where
   pub turns : i ≤ n
@@ -58,7 +66,7 @@ module _ {ℓ} {A : Type ℓ} {n : ℕ} {out₀ : List A} where
         turns = omega arith;
         room = k .room;
         same = length-set out i v ∙ k .same;
-        kept = drop-set-lt (i + 1) out i v (omega arith) ∙ sym (drop-drop 1 i out) ∙ ap (drop 1) (k .kept) ∙ drop-drop 1 i out₀;
+        kept = kept-behind out out₀ i v (k .kept);
         whole = rw (add-one, take-suc-set out i v inside, drop-set-lt n out i v h, append-assoc) (rw (e, p) at (k .whole));
       }
 
@@ -111,77 +119,78 @@ module _ {ℓ} {A : Type ℓ} {g : ℕ → A → A} {d : A} {n : ℕ} {out₀ : 
   pub updated : {i : ℕ} {out : List A} → Updating g d n i out₀ out → n ≤ i → out ≡ table n (λ (j : ℕ). g j (getD out₀ j d)) ++ drop n out₀
   updated k h = tabled _ (k .now) h
 
--- A loop that sums a list, with s the sum of the first i.
-pub record Adding (l : List ℕ) (i s : ℕ) : Type 0 where
-  pub turns : i ≤ length l
-  pub whole : s + sum (drop i l) ≡ sum l
+-- A loop that sums a list, with s the sum so far and rest what is left.
+pub record Adding (l rest : List ℕ) (s : ℕ) : Type 0 where
+  pub whole : s + sum rest ≡ sum l
 
-module _ {l : List ℕ} where
-  pub adding : Adding l 0 0
-  adding = record { turns = zero-le; whole = zero-add _ }
+pub adding : {l : List ℕ} → Adding l l 0
+adding = record { whole = zero-add _ }
 
-  pub adding-more : {i s t : ℕ} → Adding l i s → i < length l → t ≡ s + getD l i 0 → Adding l (i + 1) t
+module _ {l rest more : List ℕ} {s x : ℕ} (k : Adding l rest s) (e : rest ≡ x ∷ more) where
+  turn : sum rest ≡ x + sum more
   unfolding sum
-  adding-more {i} k h e = record { turns = omega arith; whole = omega (arith, rest-more sum l i 0 h, k .whole) }
+  turn = ap sum e
 
-  pub adding-le : {i s : ℕ} → Adding l i s → i < length l → s + getD l i 0 ≤ sum l
-  unfolding sum
-  adding-le {i} k h = omega (arith, rest-more sum l i 0 h, k .whole)
+  pub adding-more : {t : ℕ} → t ≡ s + x → Adding l more t
+  adding-more p = record { whole = omega (arith, turn, k .whole) }
 
-  pub adding-fits : {i s B : ℕ} → Adding l i s → i < length l → sum l < B → B ≤ 2 ^ 64 → Fits w64 (s + getD l i 0)
-  adding-fits k h b w = record { fits = omega (arith, adding-le k h) }
+  -- the sum with one more stays within the whole
+  pub adding-le : s + x ≤ sum l
+  adding-le = omega (arith, turn, k .whole)
 
-  pub added : {i s : ℕ} → Adding l i s → length l ≤ i → s ≡ sum l
-  unfolding sum
-  added {i} k h = omega (arith, rest-none sum l i h, k .whole)
+pub added : {l rest : List ℕ} {s : ℕ} → Adding l rest s → rest ≡ [] → s ≡ sum l
+unfolding sum
+added k e = omega (arith, ap sum e, k .whole)
 
--- A loop that puts a test to each element, and leaves at the first that fails it.
-pub record Passing {A : Type 0} (p : A → Bool) (l : List A) (i : ℕ) : Type 0 where
-  pub turns : i ≤ length l
-  pub whole : every p l ≡ every p (drop i l)
+-- ... of a list from its front, in the form that `search` finds
+module _ {l : List ℕ} {i s : ℕ} (k : Adding l (drop i l) s) (h : i < length l) where
+  pub adding-next : {t : ℕ} → t ≡ s + getD l i 0 → Adding l (drop (i + 1) l) t
+  adding-next p = adding-more k (drop-more l i 0 h) p
 
-every-cons : {A : Type 0} (p : A → Bool) (x : A) (xs : List A) → every p (x ∷ xs) ≡ (p x && every p xs)
-unfolding every
-every-cons p x xs = refl
+  pub adding-fits : {B : ℕ} → sum l < B → B ≤ 2 ^ 64 → Fits w64 (s + getD l i 0)
+  adding-fits b w = record { fits = omega (arith, adding-le k (drop-more l i 0 h)) }
 
-every-nil : {A : Type 0} (p : A → Bool) → every p [] ≡ true
-unfolding every
-every-nil p = refl
+-- A loop that puts a test to each element, and leaves at the first that fails it: what is left decides.
+pub record Passing {A : Type 0} (p : A → Bool) (l rest : List A) : Type 0 where
+  pub whole : every p l ≡ every p rest
 
 module _ {A : Type 0} {p : A → Bool} {l : List A} where
-  pub passing : Passing p l 0
-  passing = record { turns = zero-le; whole = refl }
+  pub passing : Passing p l l
+  passing = record { whole = refl }
 
-  turn : (i : ℕ) (d : A) → Passing p l i → i < length l → every p l ≡ (p (getD l i d) && every p (drop (i + 1) l))
-  turn i d k h = k .whole ∙ rest-more (every p) l i d h ∙ every-cons p (getD l i d) (drop (i + 1) l)
+  module _ {rest more : List A} {x : A} (k : Passing p l rest) (e : rest ≡ x ∷ more) where
+    tried : every p l ≡ (p x && every p more)
+    unfolding every
+    tried = k .whole ∙ ap (every p) e
 
-  pub passing-more : {i : ℕ} (d : A) → Passing p l i → i < length l → p (getD l i d) ≡ true → Passing p l (i + 1)
-  passing-more {i} d k h e = record { turns = omega arith; whole = turn i d k h ∙ rw e }
+    pub passing-more : p x ≡ true → Passing p l more
+    passing-more t = record { whole = tried ∙ rw t }
 
-  pub halted : {i : ℕ} (d : A) → Passing p l i → i < length l → p (getD l i d) ≡ false → false ≡ every p l
-  halted {i} d k h e = sym (turn i d k h ∙ rw e)
+    pub halted : p x ≡ false → false ≡ every p l
+    halted t = sym (tried ∙ rw t)
 
-  pub passed : {i : ℕ} → Passing p l i → length l ≤ i → true ≡ every p l
-  passed {i} k h = sym (k .whole ∙ rest-none (every p) l i h ∙ every-nil p)
+  pub passed : {rest : List A} → Passing p l rest → rest ≡ [] → true ≡ every p l
+  unfolding every
+  passed k e = sym (k .whole ∙ ap (every p) e)
 
 -- ... of figures that must be at most n
 pub record Limiting (n : ℕ) (l : List ℕ) (i : ℕ) : Type 0 where
-  pub now : Passing (λ x. leb x n) l i
+  pub now : Passing (λ x. leb x n) l (drop i l)
 
 module _ {n : ℕ} {l : List ℕ} where
   pub limiting : Limiting n l 0
   limiting = record { now = passing }
 
   pub limiting-more : {i : ℕ} → Limiting n l i → i < length l → getD l i 0 ≤ n → Limiting n l (i + 1)
-  limiting-more k h e = record { now = passing-more 0 (k .now) h (le-leb _ n e) }
+  limiting-more {i} k h e = record { now = passing-more (k .now) (drop-more l i 0 h) (le-leb _ n e) }
 
   pub exceeded : {i : ℕ} → Limiting n l i → i < length l → n < getD l i 0 → false ≡ atMost n l
   unfolding atMost
-  exceeded k h e = halted 0 (k .now) h (lt-leb _ n e)
+  exceeded {i} k h e = halted (k .now) (drop-more l i 0 h) (lt-leb _ n e)
 
   pub limited : {i : ℕ} → Limiting n l i → length l ≤ i → true ≡ atMost n l
   unfolding atMost
-  limited k h = passed (k .now) h
+  limited {i} k h = passed (k .now) (drop-of-length-le l h)
 
 -- A table of one value.
 pub table-constant {ℓ} : {A : Type ℓ} (n : ℕ) (v : A) → table n (λ _. v) ≡ replicate n v
@@ -192,4 +201,4 @@ table-constant n v = go n 0
     go (suc n) i = ap (λ l. v ∷ l) (go n (i + 1))
 
 -- For `search loops` at the needs of a loop.
-pub ruleset loops = (filling, tabling, tabling-more, tabled, updating, updating-more, updated, adding, adding-more, adding-fits, added, limiting, limiting-more, exceeded, limited, needs)
+pub ruleset loops = (filling, tabling, tabling-more, tabled, updating, updating-more, updated, adding, adding-next, adding-fits, added, drop-of-length-le, limiting, limiting-more, exceeded, limited, needs)

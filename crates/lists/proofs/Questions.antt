@@ -8,8 +8,8 @@ use native.Mathlib.Omega.{arith}
 use borrow.Author.Tests.{leb-true, not-true, not-false, le-leb, lt-leb, lt-ltb, le-ltb, eq-eqb, ne-eqb}
 use lib.Dec.{T, eqb, ltb, leb}
 use lib.ListN.{length, getD}
-use native.Mathlib.Nat.{suc-mul}
 use Rattle.lists.specs.Lists.{sum, every, atMost}
+use Rattle.lists.proofs.Bounds.{sum-bound}
 use Rattle.lists.specs.Questions.{_then_, Question, _⁇_, part, firstNo, inRange, outcome}
 
 pub then-yes : (n m r : ℕ) → 0 ≡ n → r ≡ m → r ≡ n then m
@@ -158,6 +158,11 @@ module _ {ℓ} {A : Type ℓ} where
   unfolding outcome
   accepted n y f e = rw e
 
+  pub same-either : (n : ℕ) (x : A) → outcome n x (λ _. x) ≡ x
+  unfolding outcome
+  same-either zero x = refl
+  same-either (suc n) x = refl
+
 -- the number itself
 pub number-itself : (n : ℕ) → outcome n 0 (λ k. k) ≡ n
 unfolding outcome
@@ -192,13 +197,7 @@ at-most-at xs n e i = leb-true _ n (every-at (λ x. leb x n) xs 0 (le-leb 0 n (o
 
 -- figures at most n: their sum is at most n for each
 pub sum-at-most : (xs : List ℕ) (n : ℕ) → atMost n xs ≡ true → sum xs ≤ length xs * n
-unfolding sum atMost every
-sum-at-most [] n e = omega arith
-sum-at-most (x ∷ xs) n e =
-    let h = both (leb x n) _ e in
-    let a = leb-true x n (h .0) in
-    let b = sum-at-most xs n (h .1) in
-    omega (arith, suc-mul (length xs) n)
+sum-at-most xs n e = sum-bound xs n (record { at = at-most-at xs n e })
 
 pub ruleset asks = (no, yes, part-no, part-yes, part-last, all-yes, le-leb, lt-leb, lt-ltb, le-ltb, eq-eqb, ne-eqb, refused, granted, called-no, called-yes, none, some, eq-of, ne-of, below, above, in-range, not-yes, not-no, and-both, and-first, and-second, refl)
 

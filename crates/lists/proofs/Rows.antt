@@ -1,14 +1,16 @@
 -- Lists that run row by row, w figures a row: their columns and rows, for any number of columns. Assumes nothing.
-use mathlib.Core.Path.{_≡_, refl, sym, ap, _∙_}
-use Prim.Native.Nat.{ℕ, zero, suc, _+_, _-_, _*_, _≤_, _<_}
+use mathlib.Core.Path.{_≡_, refl, sym, ap, _∙_, subst}
+use Prim.Native.Nat.{ℕ, zero, suc, _+_, _-_, _*_, _/_, _%_, _≤_, _<_}
 use native.Mathlib.Omega.{arith}
-use native.Mathlib.Nat.{add-zero, zero-add, suc-add, mul-add, mul-one, suc-mul, zero-mul, mul-zero}
+use native.Mathlib.Numerals.{add-one}
+use native.Mathlib.Nat.{add-zero, zero-add, suc-add, mul-add, mul-one, suc-mul, zero-mul, mul-zero, add-sub-cancel, mod-lt, div-add-mod'}
 use mathlib.Core.List.{List, [], _∷_, _++_, flatten}
 use lib.ListN.{length, getD, take, drop, replicate, length-append, drop-of-length-le, List·getD-append}
 use lib.Seq.{drop-cons, drop-drop, getD-drop, getD-append-add, ext-getD}
-use Rattle.lists.specs.Lists.{sum, table, tableFrom}
-use Rattle.lists.specs.Columns.{rowwise, transpose, byRow, column}
-use Rattle.lists.proofs.Columns.{_!_, length-rowwise, getD-transpose}
+use Rattle.lists.specs.Lists.{sum, table, tableFrom, Within}
+use Rattle.lists.specs.Columns.{rowwise, four, transpose, byRow, column}
+use Rattle.lists.proofs.Columns.{_!_, length-rowwise, getD-transpose, four-at}
+use Rattle.lists.proofs.Bounds.{sum-bound}
 
 -- ---- a column
 -- m of the figures to be passed over, dropped
@@ -31,6 +33,10 @@ column-at w zero p (x ∷ xs) (suc i) d = column-at w (w - 1) p xs i d ∙ sym (
     index = omega (arith, suc-mul i w)
 column-at w (suc j) p (x ∷ xs) i d = column-at w j p xs i d ∙ sym (ap (λ (j : ℕ). getD (x ∷ xs) j d) (suc-add j (i * w)))
 
+-- the same, at the place that the code reads
+pub column-place : {A : Type 0} (w j : ℕ) → 0 < w → (xs : List A) (i : ℕ) (d : A) {k : ℕ} → k ≡ w * i + j → getD (column w j xs) i d ≡ getD xs k d
+column-place w j p xs i d e = column-at w j p xs i d ∙ ap (λ (k : ℕ). getD xs k d) (omega arith)
+
 -- a column of two lists taken row by row
 pub column-rowwise : {A B C : Type 0} (f : A → B → C) (a : A) (b : B) (w j : ℕ) (xs : List A) (ys : List B)
     → column w j (rowwise f a b xs ys) ≡ rowwise f a b (column w j xs) (column w j ys)
@@ -43,44 +49,58 @@ column-rowwise f a b w (suc j) (x ∷ xs) [] = column-rowwise f a b w j xs []
 column-rowwise f a b w zero (x ∷ xs) (y ∷ ys) = ap (λ l. f x y ∷ l) (column-rowwise f a b w (w - 1) xs ys)
 column-rowwise f a b w (suc j) (x ∷ xs) (y ∷ ys) = column-rowwise f a b w j xs ys
 
-module _ {A : Type 0} (d : A) (w j : ℕ) (h : j < w) (l : List A) (i : ℕ) where
-  here : w - 1 ≡ w - 1 - j + j
-  here = omega arith
+-- A loop down a column starts at place j, and a turn goes on by w. What is left at place i is `column w 0 (drop i l)`, for a list of any length.
+module _ {A : Type 0} where
+  -- where the loop begins
+  pub stride : (w j : ℕ) (l : List A) → column w j l ≡ column w 0 (drop j l)
+  stride w j l = ap (λ (n : ℕ). column w n l) (sym (add-zero j)) ∙ column-skip w j 0 l
 
-  there : suc (w * i + j) + (w - 1 - j) ≡ w * (i + 1)
-  there = omega (arith, mul-add w i 1, mul-one w)
-
-  column-first : column w 0 (getD l (w * i + j) d ∷ drop (suc (w * i + j)) l) ≡ getD l (w * i + j) d ∷ column w (w - 1) (drop (suc (w * i + j)) l)
+  first : (w : ℕ) (x : A) (l : List A) → column w 0 (x ∷ l) ≡ x ∷ column w (w - 1) l
   unfolding column
-  column-first = refl
+  first w x l = refl
 
-  -- the column from the row i on: the figure of the row i, and the column from the row i + 1 on
-  pub column-row : w * i + j < length l → column w j (drop (w * i) l) ≡ getD l (w * i + j) d ∷ column w j (drop (w * (i + 1)) l)
-  column-row k =
-      ap (λ (n : ℕ). column w n (drop (w * i) l)) (sym (add-zero j))
-      ∙ column-skip w j 0 (drop (w * i) l)
-      ∙ ap (column w 0) (drop-drop j (w * i) l ∙ drop-cons l (w * i + j) d k)
-      ∙ column-first
-      ∙ ap (λ (q : List A). getD l (w * i + j) d ∷ q)
-      (ap (λ (n : ℕ). column w n (drop (suc (w * i + j)) l)) here
-      ∙ column-skip w (w - 1 - j) j (drop (suc (w * i + j)) l)
-      ∙ ap (column w j) (drop-drop (w - 1 - j) (suc (w * i + j)) l ∙ ap (λ (n : ℕ). drop n l) there))
+  -- a turn takes one figure from what is left
+  pub stride-more : (w : ℕ) → 0 < w → (l : List A) (i : ℕ) (d : A) → i < length l → column w 0 (drop i l) ≡ getD l i d ∷ column w 0 (drop (i + w) l)
+  stride-more w p l i d h =
+      let next : suc i + (w - 1) ≡ i + w = omega arith in
+      ap (column w 0) (drop-cons l i d h) ∙ first w (getD l i d) (drop (suc i) l)
+      ∙ ap (λ (q : List A). getD l i d ∷ q)
+      (stride w (w - 1) (drop (suc i) l) ∙ ap (column w 0) (drop-drop (w - 1) (suc i) l ∙ ap (λ (n : ℕ). drop n l) next))
 
-  -- past the last row
-  pub column-none : length l ≤ w * i → column w j (drop (w * i) l) ≡ []
+  -- at the end nothing is left
+  pub stride-none : (w : ℕ) (l : List A) (i : ℕ) → length l ≤ i → column w 0 (drop i l) ≡ []
   unfolding column
-  column-none k = rw (drop-of-length-le l k)
+  stride-none w l i h = rw (drop-of-length-le l h)
 
 -- a figure for each row
 module _ {A : Type 0} (d : A) (w j : ℕ) (h : j < w) (l : List A) where
-  length-from : (k i : ℕ) → length l ≡ w * (i + k) → length (column w j (drop (w * i) l)) ≡ k
-  length-from zero i e = ap length (column-none d w j h l i (omega (arith, ap (λ (n : ℕ). w * n) (add-zero i))))
+  length-from : (k i : ℕ) → length l + j ≡ i + w * k → length (column w 0 (drop i l)) ≡ k
+  length-from zero i e = ap length (stride-none w l i (omega (arith, mul-zero w)))
   length-from (suc k) i e =
-      ap length (column-row d w j h l i (omega (arith, mul-add w i (suc k), mul-add w 1 k, ap (λ (n : ℕ). w * n) (suc-add 0 k), mul-one w, zero-add k)))
-      ∙ ap suc (length-from k (i + 1) (e ∙ ap (λ (n : ℕ). w * n) (omega arith)))
+      ap length (stride-more w (omega arith) l i d (omega (arith, suc-mul k w))) ∙ ap suc (length-from k (i + w) (omega (arith, suc-mul k w)))
 
   pub length-column : (n : ℕ) → length l ≡ w * n → length (column w j l) ≡ n
-  length-column n e = ap (λ (k : ℕ). length (column w j (drop k l))) (sym (mul-zero w)) ∙ length-from n 0 (e ∙ ap (λ (k : ℕ). w * k) (sym (zero-add n)))
+  length-column n e = ap length (stride w j l) ∙ length-from n j (omega arith)
+
+-- what holds at each row and column holds at each place
+pub by-places : (P : ℕ → Type 0) (w : ℕ) → 0 < w → ((i j : ℕ) → j < w → P (j + i * w)) → (k : ℕ) → P k
+by-places P w p h k =
+    let place : k % w + k / w * w ≡ k = omega (arith, div-add-mod' k w) in
+    subst P place (h (k / w) (k % w) (mod-lt k p))
+
+-- what holds of every figure of every column holds of every figure of the list
+pub by-columns : {A : Type 0} (P : A → Type 0) (w : ℕ) → 0 < w → (l : List A) (d : A) → ((j : ℕ) → j < w → (k : ℕ) → P (getD (column w j l) k d)) → (i : ℕ) → P (getD l i d)
+by-columns P w p l d h = by-places (λ i. P (getD l i d)) w p (λ i j u. subst P (column-at w j p l i d) (h j u i))
+
+-- a column adds up to no more than the list
+column-le : (w j : ℕ) (l : List ℕ) → sum (column w j l) ≤ sum l
+unfolding sum column
+column-le w j [] = omega arith
+column-le w zero (x ∷ l) = omega (arith, column-le w (w - 1) l)
+column-le w (suc j) (x ∷ l) = omega (arith, column-le w j l)
+
+pub column-within : (w j : ℕ) (l : List ℕ) (b : ℕ) → Within l b → sum (column w j l) ≤ length l * b
+column-within w j l b h = omega (arith, column-le w j l, sum-bound l b h)
 
 -- ---- columns of one length, row by row
 -- each column has n figures
@@ -125,10 +145,7 @@ module _ {A : Type 0} (d : A) where
         let a = length-append r (flatten rows) in
         let b = length-flatten rows (λ i h. e (suc i) (omega arith)) in
         let c = e 0 (omega arith) in
-        omega (arith, mul-add w (length rows) 1, mul-one w, ap (λ (n : ℕ). w * n) (add-suc-one (length rows)))
-      where
-        add-suc-one : (n : ℕ) → n + 1 ≡ suc n
-        add-suc-one n = omega arith
+        omega (arith, mul-add w (length rows) 1, mul-one w, ap (λ (n : ℕ). w * n) (add-one (length rows)))
 
     flatten-at : (rows : List (List A)) → Wide rows → (i j : ℕ) → j < w → getD (flatten rows) (j + i * w) d ≡ getD (getD rows i []) j d
     unfolding flatten
@@ -147,14 +164,34 @@ module _ {A : Type 0} (d : A) where
     pub length-byRow : length (byRow d (c ∷ cs)) ≡ suc (length cs) * n
     length-byRow = length-flatten (suc (length cs)) (transpose d (c ∷ cs)) wide ∙ ap (λ (k : ℕ). suc (length cs) * k) (rows-even n c cs e)
 
-    -- the columns are those that were put in
+    -- each figure, and so each column, is the one that was put in
+    pub at-byRow : (i j : ℕ) → j < suc (length cs) → getD (byRow d (c ∷ cs)) (j + i * suc (length cs)) d ≡ getD (getD (c ∷ cs) j []) i d
+    at-byRow i j h = flatten-at (suc (length cs)) (transpose d (c ∷ cs)) wide i j h ∙ getD-transpose d (c ∷ cs) i j
+
     pub column-byRow : (j : ℕ) → j < suc (length cs) → column (suc (length cs)) j (byRow d (c ∷ cs)) ≡ getD (c ∷ cs) j []
     column-byRow j h =
         let w : ℕ = suc (length cs) in
         ext-getD d (column w j (byRow d (c ∷ cs))) (getD (c ∷ cs) j [])
         (length-column d w j h (byRow d (c ∷ cs)) n length-byRow ∙ sym (even-at n (c ∷ cs) e j h))
-        (λ i _.
-        column-at w j (omega arith) (byRow d (c ∷ cs)) i d ∙ flatten-at w (transpose d (c ∷ cs)) wide i j h ∙ getD-transpose d (c ∷ cs) i j)
+        (λ i _. column-at w j (omega arith) (byRow d (c ∷ cs)) i d ∙ at-byRow i j h)
+
+-- a column for each of the four submarkets, n figures each
+module _ (f : ℕ → List ℕ) (n : ℕ) (sized : (s : ℕ) → length (f s) ≡ n) where
+  even : Even n (four f)
+  even = (sized 1, (sized 2, (sized 3, (sized 4, tt))))
+
+  pub fours-sized : length (byRow 0 (four f)) ≡ 4 * n
+  fours-sized = length-byRow 0 n (f 1) (f 2 ∷ f 3 ∷ f 4 ∷ []) even
+
+  pub fours-at : (s : ℕ) → 1 ≤ s → s ≤ 4 → (i : ℕ) → byRow 0 (four f) ! (s - 1 + i * 4) ≡ f s ! i
+  fours-at s l k i = at-byRow 0 n (f 1) (f 2 ∷ f 3 ∷ f 4 ∷ []) even i (s - 1) (omega arith) ∙ ap (λ c. c ! i) (four-at f [] s l k)
+
+  pub fours-column : (s : ℕ) → 1 ≤ s → s ≤ 4 → column 4 (s - 1) (byRow 0 (four f)) ≡ f s
+  fours-column s l k = column-byRow 0 n (f 1) (f 2 ∷ f 3 ∷ f 4 ∷ []) even (s - 1) (omega arith) ∙ four-at f [] s l k
+
+pub by-fours : (P : ℕ → Type 0) → ((s : ℕ) → 1 ≤ s → s ≤ 4 → (i : ℕ) → P (s - 1 + i * 4)) → (k : ℕ) → P k
+by-fours P h =
+    by-places P 4 (omega arith) (λ i j l. subst (λ (m : ℕ). P (m + i * 4)) (add-sub-cancel j 1) (h (j + 1) (omega arith) (omega arith) i))
 
 -- ---- a row
 -- the first w figures of a list, as a table
@@ -189,3 +226,7 @@ pub at-replicate : {A : Type 0} (n i : ℕ) (a : A) → getD (replicate n a) i a
 at-replicate zero i a = refl
 at-replicate (suc n) zero a = refl
 at-replicate (suc n) (suc i) a = at-replicate n i a
+
+-- a column of a list of one value
+pub column-same : {A : Type 0} (w j : ℕ) → 0 < w → (n i : ℕ) (a : A) → getD (column w j (replicate n a)) i a ≡ a
+column-same w j p n i a = column-at w j p (replicate n a) i a ∙ at-replicate n (j + i * w) a

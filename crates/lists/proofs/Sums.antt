@@ -4,7 +4,7 @@ use mathlib.Core.List.{List, [], _∷_, _++_}
 use Prim.Native.Nat.{ℕ, zero, suc, _+_, _*_, _≤_, _<_, zero-le}
 use native.Mathlib.Nat.{zero-add, add-zero, le-of-suc-le-suc, not-suc-le-zero}
 use native.Mathlib.Omega.{arith}
-use lib.ListN.{length, take, drop, getD, replicate}
+use lib.ListN.{length, take, drop, getD, replicate, take-append-drop}
 use lib.Seq.{ext-getD}
 use Rattle.lists.specs.Lists.{sum, table, tableFrom}
 
@@ -25,22 +25,16 @@ at-le-sum [] i = zero-le
 at-le-sum (x ∷ xs) zero = omega arith
 at-le-sum (x ∷ xs) (suc i) = omega (arith, at-le-sum xs i)
 
--- a part from the front is at most the sum
-pub take-le-sum : (l : List ℕ) (i : ℕ) → sum (take i l) ≤ sum l
-unfolding sum
-take-le-sum l zero = zero-le
-take-le-sum [] (suc i) = zero-le
-take-le-sum (x ∷ xs) (suc i) = omega (arith, take-le-sum xs i)
-
-drop-le-sum : (l : List ℕ) (i : ℕ) → sum (drop i l) ≤ sum l
-unfolding sum
-drop-le-sum l zero = omega arith
-drop-le-sum [] (suc i) = zero-le
-drop-le-sum (x ∷ xs) (suc i) = omega (arith, drop-le-sum xs i)
+-- a part from the front and the rest
+pub sum-split : (l : List ℕ) (k : ℕ) → sum (take k l) + sum (drop k l) ≡ sum l
+sum-split l k = sym (sum-append (take k l) (drop k l)) ∙ ap sum (take-append-drop k l)
 
 -- a part is at most the sum
+pub take-le-sum : (l : List ℕ) (k : ℕ) → sum (take k l) ≤ sum l
+take-le-sum l k = omega (arith, sum-split l k)
+
 pub part-le-sum : (l : List ℕ) (a k : ℕ) → sum (take k (drop a l)) ≤ sum l
-part-le-sum l a k = omega (arith, take-le-sum (drop a l) k, drop-le-sum l a)
+part-le-sum l a k = omega (arith, sum-split (drop a l) k, sum-split l a)
 
 module _ {ℓ} {A : Type ℓ} (f : ℕ → A) where
   length-from : (i k : ℕ) → length (tableFrom f i k) ≡ k

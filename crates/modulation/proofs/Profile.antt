@@ -1,10 +1,10 @@
 -- Step 1 by running totals of the profile, and steps 1 and 2 on columns. Assumes nothing.
-use mathlib.Core.Path.{_≡_, sym, ap, _∙_}
+use mathlib.Core.Path.{_≡_, ap, _∙_}
 use mathlib.Core.List.{List, [], _∷_, _++_}
 use Prim.Native.Nat.{ℕ, suc, _+_, _-_, _*_, _/_, _^_, _≤_, _<_}
 use native.Mathlib.Nat.{le-trans}
 use native.Mathlib.Omega.{arith}
-use lib.ListN.{length, take, drop, getD, take-append-drop}
+use lib.ListN.{length, take, getD}
 use lib.Seq.{take-suc, take-take}
 use Rattle.lists.specs.Lists.{sum, table, Within}
 use Rattle.wide.proofs.Step.{at-most}
@@ -17,9 +17,6 @@ use Rattle.modulation.specs.declared.ratio.Ratio.{Ratio}
 use Rattle.modulation.proofs.Digits.{scaled}
 
 module _ (l : List ℕ) (k : ℕ) where
-  pub sum-split : sum (take k l) + sum (drop k l) ≡ sum l
-  sum-split = sym (sum-append (take k l) (drop k l)) ∙ ap sum (take-append-drop k l)
-
   -- the total with one more period
   pub sum-next : 1 ≤ k → k ≤ length l → sum (take (k - 1) l) + getD l (k - 1) 0 ≡ sum (take k l)
   unfolding sum

@@ -3,21 +3,20 @@ use mathlib.Core.Path.{_≡_, sym, _∙_}
 use mathlib.Core.Bool.{true, not}
 use Prim.Native.Nat.{ℕ}
 use mathlib.Core.List.{List, [], _∷_, map}
-use borrow.Author.Tests.{leb-true, eqb-true}
-use lib.ListN.{length, length-map}
-use Rattle.lists.proofs.Questions.{asked, parted, both, limits, then-zero, number-itself, outcome-part}
-use Rattle.sharing.proofs.Sharing.{share-lawful}
+use Rattle.lists.proofs.Questions.{asked, number-itself, outcome-part}
 use Rattle.blocks.specs.Portion.{Standing}
-use Rattle.blocks.proofs.Blocks.{placed-at}
 use Rattle.hour.specs.declared.Plant.{Plant}
-use Rattle.hour.specs.Hour.{hourOf, submarkets}
+use Rattle.hour.specs.Hour.{hourOf}
 use Rattle.hour.proofs.Hour.{Sound}
+use Rattle.hour.proofs.Limits.{sound-of}
 use Rattle.ledger.specs.Ledger.{Ledger}
 use Rattle.month.specs.declared.Month.{Month}
-use Rattle.questions.specs.Questions.{placed, rowNumber, rowsNumber, tablesNumber}
+use Rattle.questions.specs.Questions.{rowsNumber}
+use Rattle.questions.proofs.Asked.{first-row}
 use Rattle.month.specs.declared.Balanced.{Balanced}
 use Rattle.month.specs.declared.Ended.{Ended}
-use Rattle.month.specs.Questions.{isOpen, isBlank, openNumber, ownNumber, meteredNumber, settleNumber, closeNumber, balanceNumber}
+use Rattle.month.specs.Questions.{isOpen, isBlank, openNumber, settleNumber, closeNumber, balanceNumber}
+use Rattle.month.proofs.Asked.{settled}
 use Rattle.month.specs.Calls.{OpenEnd, openCall, SettleEnd, settleCall, balanceCall, closeCall}
 
 -- the number answered is that of the questions
@@ -44,13 +43,10 @@ subs ps = map (λ (p : Plant). p .submarket) ps
 
 -- accepted rows stand by submarket
 pub rows-standing : (s n : ℕ) (ps : List Plant) → rowsNumber s n ps ≡ 0 → Standing s (subs ps)
-unfolding rowsNumber rowNumber placed
 rows-standing s n [] e = tt
 rows-standing s n (p ∷ ps) e =
-    let f = then-zero _ _ e in
-    let g = both _ _ (asked _ _ _ tt (f .0) .0) in
-    let k = limits _ _ _ (g .0) in
-    (leb-true s (p .submarket) (g .1), k .0, k .1, rows-standing (p .submarket) (p .number) ps (f .1))
+    let r = first-row s n p ps e in
+    (r .placed, r .some, r .limited .submarket, rows-standing (p .submarket) (p .number) ps (r .others))
 
 -- a settle call that is accepted: the month is open, and the hour is sound, whatever its period
 pub record Settles (m : Month) (plants : List Plant) (profile metered : List ℕ) : Type 0 where
@@ -59,22 +55,11 @@ pub record Settles (m : Month) (plants : List Plant) (profile metered : List ℕ
 
 pub settle-accepted : (m : Month) (plants : List Plant) (profile metered lent : List ℕ) (l : Ledger)
     → settleNumber m plants profile metered lent l ≡ 0 → Settles m plants profile metered
-unfolding settleNumber ownNumber tablesNumber meteredNumber submarkets hourOf
 settle-accepted m plants profile metered lent l e =
-    let q = parted _ _ e in
-    let own = q .0 in
-    let open′ = asked _ _ _ tt own in
-    let many = both _ _ (asked _ _ _ tt (parted _ _ (open′ .1) .1) .0) .0 in
-    let tables = parted _ _ (q .1) in
-    let rows = rows-standing 0 0 plants (parted _ _ (tables .0) .0) in
-    let count = asked _ _ _ tt (asked _ _ _ tt (parted _ _ (tables .1) .0) .1) .0 in
+    let q = settled m plants profile metered lent l e .0 in
     record {
-      isOpened = open′ .0;
-      sound = λ k. record {
-        lawful = share-lawful;
-        placed = λ i h. placed-at 0 (subs plants) rows i (rw length-map h);
-        metered = eqb-true (length metered) (m .plants) count ∙ sym (eqb-true (length plants) (m .plants) many);
-      };
+      isOpened = q .own .isOpened;
+      sound = λ k. sound-of plants profile metered k (rows-standing 0 0 plants (q .tables .rows)) (q .meter .meters ∙ sym (q .own .rows));
     }
 
 pub close-accepted : (m : Month) → closeNumber m ≡ 0 → isOpen (m .stage) ≡ true

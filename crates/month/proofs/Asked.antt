@@ -9,11 +9,11 @@ use Rattle.lists.specs.Lists.{sum, atMost}
 use Rattle.lists.specs.Columns.{at}
 use Rattle.lists.proofs.Questions.{asked, parted, both, limits}
 use Rattle.hour.specs.declared.Plant.{Plant}
+use Rattle.hour.specs.Hour.{hourOf}
 use Rattle.ledger.specs.Ledger.{Ledger, inBounds}
-use Rattle.questions.proofs.Asked.{Sizes, sizes, Lengths, lengths, Tables, tables}
+use Rattle.questions.proofs.Asked.{Sizes, sizes, Lengths, ledger, Tables, tables}
 use Rattle.month.specs.declared.Month.{Month}
-use Rattle.month.specs.Questions.{openNumber, ownNumber, meteredNumber, boundsNumber, balanceNumber}
-use Rattle.month.specs.Steps.{inputsNumber}
+use Rattle.month.specs.Questions.{isOpen, openNumber, ownNumber, meteredNumber, inputsNumber, posted, boundsNumber, settleNumber, balanceNumber}
 
 -- open: 1 to 11
 pub opened : (m : Month) (plants : List Plant) (profile : List ℕ) (t : ℕ) (l : Ledger) → openNumber m plants profile t l ≡ 0
@@ -27,6 +27,7 @@ opened m plants profile t l e =
 
 -- settle: 12, 2, 3, 4 and 13, with p rows and h profile figures lent
 pub record Own (m : Month) (p h : ℕ) : Type 0 where
+  pub isOpened : isOpen (m .stage) ≡ true
   pub sizes : Sizes (m .plants) (m .periods) (m .tariff)
   pub rows : p ≡ m .plants
   pub figures : h ≡ m .periods
@@ -34,9 +35,10 @@ pub record Own (m : Month) (p h : ℕ) : Type 0 where
 pub own : (m : Month) (p h k : ℕ) → k ≡ ownNumber m p h → k ≡ 0 → Own m p h
 unfolding ownNumber
 own m p h k e z =
-    let q₂ = parted _ _ (asked _ _ _ tt (sym e ∙ z) .1) in
+    let q₁₂ = asked _ _ _ tt (sym e ∙ z) in
+    let q₂ = parted _ _ (q₁₂ .1) in
     let q₁₃ = both _ _ (asked _ _ [] tt (q₂ .1) .0) in
-    record { sizes = sizes _ _ _ _ refl (q₂ .0); rows = eqb-true _ _ (q₁₃ .0); figures = eqb-true _ _ (q₁₃ .1) }
+    record { isOpened = q₁₂ .0; sizes = sizes _ _ _ _ refl (q₂ .0); rows = eqb-true _ _ (q₁₃ .0); figures = eqb-true _ _ (q₁₃ .1) }
 
 -- ... 14 to 18
 pub record Metered (m : Month) (profile metered : List ℕ) (lent : ℕ) : Type 0 where
@@ -81,9 +83,17 @@ inputs m plants profile ms lent l k e z =
     record { own = own _ _ _ _ refl (q₁₂ .0); tables = tables _ _ _ _ (q₅ .0); meter = metered _ _ _ _ (q₁₄ .0) }
 
 -- ... 19
-pub bounds : (before after : Ledger) (k : ℕ) → k ≡ boundsNumber before after → k ≡ 0 → inBounds before ≡ true
+pub bounds : (before after : Ledger) (k : ℕ) → k ≡ boundsNumber before after → k ≡ 0 → (inBounds before ≡ true) × (inBounds after ≡ true)
 unfolding boundsNumber
-bounds before after k e z = both _ _ (asked _ _ [] tt (sym e ∙ z) .0) .0
+bounds before after k e z = both _ _ (asked _ _ [] tt (sym e ∙ z) .0)
+
+-- ... all of them
+pub settled : (m : Month) (plants : List Plant) (profile metered lent : List ℕ) (l : Ledger) → settleNumber m plants profile metered lent l ≡ 0
+    → Inputs m plants profile metered (length lent) l × ((inBounds l ≡ true) × (inBounds (posted l (hourOf plants profile metered (m .due)) (m .tariff)) ≡ true))
+unfolding settleNumber
+settled m plants profile ms lent l e =
+    let q = parted _ _ e in
+    (inputs m plants profile ms (length lent) l _ refl (q .0), bounds _ _ _ refl (parted _ [] (q .1) .0))
 
 -- balance: 21, 2, 11 and 19
 pub record Balance (m : Month) (l : Ledger) : Type 0 where
@@ -95,5 +105,5 @@ pub balance : (m : Month) (l : Ledger) (k : ℕ) → k ≡ balanceNumber m l →
 unfolding balanceNumber
 balance m l k e z =
     let q₂ = asked _ _ _ tt (asked _ _ _ tt (sym e ∙ z) .1) in
-    let q₁₁ = parted _ _ (q₂ .1) in
-    record { plants = limits _ _ _ (q₂ .0) .1; lengths = lengths _ _ (q₁₁ .0); inside = asked _ _ [] tt (q₁₁ .1) .0 }
+    let q₁₁ = ledger _ _ (parted _ [] (q₂ .1) .0) in
+    record { plants = limits _ _ _ (q₂ .0) .1; lengths = q₁₁ .0; inside = q₁₁ .1 }

@@ -1,42 +1,28 @@
 -- What settle answers and leaves, from what its functions did: 12 to 18 and then 19 asked, the hour worked, the lists written. Assumes nothing.
-use mathlib.Core.Path.{_≡_, refl, sym, ap, ap₂, _∙_}
-use mathlib.Core.List.{List, [], _++_, append-nil}
-use Prim.Native.Nat.{ℕ, zero, suc, _+_}
+use mathlib.Core.Path.{_≡_, refl, ap, ap₂, _∙_}
+use mathlib.Core.List.{List, _++_}
+use Prim.Native.Nat.{ℕ, _+_}
+use native.Mathlib.Omega.{arith}
 use lib.IntN.{ℤ}
 use lib.ListN.{length, drop}
-use lib.Seq.{drop-length}
 use Rattle.lists.specs.Lists.{sum}
-use Rattle.lists.specs.Questions.{_then_, firstNo}
-use Rattle.lists.proofs.Questions.{then-yes, then-no, refuses, accepts}
+use Rattle.lists.proofs.Parts.{whole-written}
+use Rattle.lists.proofs.Questions.{part-yes, part-no, part-last, refuses, accepts}
 use Rattle.transfer.specs.Calls.{noTable}
 use Rattle.hour.specs.declared.Worked.{Worked}
-use Rattle.hour.specs.Hour.{Hour, hourOf, guarantees, secondary, coverTable, secondaryTable, allotment, accounts}
+use Rattle.hour.specs.Hour.{Hour, hourOf, guarantees, secondary, coverTable, secondaryTable, allotment}
 use Rattle.hour.specs.Work.{HourWorked}
 use Rattle.ledger.specs.Ledger.{Ledger, added}
 use Rattle.ledger.specs.Posting.{hourFigures}
 use Rattle.hour.specs.declared.Plant.{Plant}
 use Rattle.month.specs.declared.Month.{Month}
 use Rattle.month.specs.declared.Settled.{Settled}
-use Rattle.month.specs.Questions.{posted, boundsNumber, settleNumber}
+use Rattle.month.specs.Questions.{posted, inputsNumber, boundsNumber, settleNumber}
 use Rattle.month.specs.Calls.{SettleEnd, settleCall}
-use Rattle.month.specs.Steps.{inputsNumber}
-
-regroup : (a b c d : ℕ) → a then b then c then d then 0 ≡ (a then b then c then 0) then d
-unfolding _then_
-regroup (suc a) b c d = refl
-regroup zero (suc b) c d = refl
-regroup zero zero (suc c) d = refl
-regroup zero zero zero (suc d) = refl
-regroup zero zero zero zero = refl
 
 module _ (m : Month) (plants : List Plant) (profile metered lent : List ℕ) (l : Ledger) where
   abbrev hour : Hour
   hour = hourOf plants profile metered (m .due)
-
-  -- 12 to 18, then 19
-  settle-is : settleNumber m plants profile metered lent l ≡ inputsNumber m plants profile metered (length lent) l then boundsNumber l (posted l hour (m .tariff))
-  unfolding settleNumber inputsNumber firstNo
-  settle-is = regroup _ _ _ _
 
   -- zeros beside a number
   abbrev pub unsettled : ℕ → Settled
@@ -51,16 +37,18 @@ module _ (m : Month) (plants : List Plant) (profile metered lent : List ℕ) (l 
   refused k e n r p = refuses k _ _ _ _ e n (ap (λ (x : Settled). record { answer = x; allotment = lent; ledger = l }) p)
 
   pub refused-inputs : (k : ℕ) → k ≡ inputsNumber m plants profile metered (length lent) l → (k ≡ 0 → ⊥) → (r : Settled) → r ≡ unsettled k → Ends r lent l
-  refused-inputs k e n r p = refused k (then-no k _ _ e n ∙ sym settle-is) n r p
+  unfolding settleNumber
+  refused-inputs k e n r p = refused k (part-no _ _ k e n) n r p
 
   module _ (asked : inputsNumber m plants profile metered (length lent) l ≡ 0) (w : Worked) (figures : List ℕ) (lentNets : List ℤ)
       (done : HourWorked hour w figures lentNets) (k : ℕ) (e : k ≡ boundsNumber l (added l (hourFigures figures lentNets (m .tariff)))) where
     posted-is : added l (hourFigures figures lentNets (m .tariff)) ≡ posted l hour (m .tariff)
-    unfolding posted accounts
+    unfolding posted
     posted-is = ap₂ (λ (x : List ℕ) (y : List ℤ). added l (hourFigures x y (m .tariff))) (done .allotted) (done .netted)
 
     number-is : k ≡ settleNumber m plants profile metered lent l
-    number-is = then-yes _ _ _ (sym asked) (e ∙ ap (boundsNumber l) posted-is) ∙ sym settle-is
+    unfolding settleNumber
+    number-is = part-yes _ _ _ k refl asked (part-last _ k (e ∙ ap (boundsNumber l) posted-is))
 
     pub refused-bounds : (k ≡ 0 → ⊥) → (r : Settled) → r ≡ unsettled k → Ends r lent l
     refused-bounds n r p = refused k number-is n r p
@@ -87,8 +75,7 @@ module _ (m : Month) (plants : List Plant) (profile metered lent : List ℕ) (l 
         → Ends r a (record { allotted = x; accounts = y })
     unfolding settleCall
     written z same r p a x y f g i =
-        let end : drop (length figures) lent ≡ [] = rw (same, drop-length) in
-        let whole : a ≡ allotment hour = f ∙ ap (λ (d : List ℕ). figures ++ d) end ∙ append-nil figures ∙ done .allotted in
+        let whole : a ≡ allotment hour = whole-written (length figures) figures lent f (omega arith) ∙ done .allotted in
         let ledger : _≡_ {A = Ledger} (record { allotted = x; accounts = y }) (posted l hour (m .tariff))
         = ap₂ (λ (u : List ℕ) (v : List ℤ). record { allotted = u; accounts = v }) g i ∙ posted-is in
         let answered = p ∙ answer-is in

@@ -15,10 +15,9 @@ use Rattle.records.proofs.Figures.{length-rows, held-rows}
 use Rattle.questions.specs.Questions.{sizesNumber}
 use Rattle.month.specs.declared.Month.{Month}
 use Rattle.month.specs.declared.Sized.{Sized}
-use Rattle.month.specs.Questions.{isOpen, openNumber, ownNumber}
+use Rattle.month.specs.Questions.{isOpen, openNumber, ownNumber, inputsNumber}
 use Rattle.month.specs.Calls.{OpenEnd, openCall, SettleEnd, settleCall}
 use Rattle.month.specs.Statement.{dueNumber, StatementEnd, statementCall, Sizing}
-use Rattle.month.specs.Steps.{inputsNumber}
 use Rattle.month.proofs.Asked.{own}
 use Rattle.month.proofs.Ends.{unsettled, refused-inputs}
 use Rattle.month.proofs.StatementAsked.{statement-many, size-many}

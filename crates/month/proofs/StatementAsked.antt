@@ -1,10 +1,10 @@
 -- The statement's questions answered yes: its figures are within limits, and what the two calls answer and leave. Assumes nothing.
 use mathlib.Core.Path.{_≡_, refl, sym, ap, ap₂, _∙_, subst}
-use mathlib.Core.List.{List, [], _++_}
+use mathlib.Core.List.{List, []}
 use Prim.Native.Nat.{ℕ, _+_, _-_, _≤_, _<_}
 use native.Mathlib.Omega.{arith}
 use borrow.Author.Tests.{leb-true, eqb-true, le-leb, lt-leb}
-use lib.ListN.{length, drop}
+use lib.ListN.{length}
 use Rattle.lists.proofs.Questions.{asked, parted, limits, yes, no, part-yes, part-no, all-yes, refuses, accepts}
 use Rattle.hour.specs.declared.Plant.{Plant}
 use Rattle.hour.specs.Table.{plantsOf}
@@ -20,7 +20,7 @@ use Rattle.statement.proofs.Limits.{callable, promised}
 use Rattle.month.specs.declared.Month.{Month}
 use Rattle.month.specs.declared.Sized.{Sized}
 use Rattle.month.specs.Statement.{dueNumber, sizingNumber, statementNumber, statementOf, StatementEnd, statementCall, Sizing}
-use Rattle.questions.proofs.Asked.{lengths, rows-shown}
+use Rattle.questions.proofs.Asked.{ledger, rows-shown}
 
 -- 21, 2, 3, 13 and 14, with so many rows lent
 pub record Due (m : Month) (rows : ℕ) : Type 0 where
@@ -49,20 +49,19 @@ unfolding sizingNumber
 sizing-asked m plants l k e z =
     let q₁₄ = parted _ _ (sym e ∙ z) in
     let q₅ = parted _ _ (q₁₄ .1) in
-    let q₁₁ = parted _ _ (q₅ .1) in
-    let q₁₉ = asked _ _ [] tt (q₁₁ .1) in
     let d = due m (length plants) _ refl (q₁₄ .0) in
-    let s = lengths (m .plants) l (q₁₁ .0) in
+    let q₁₁ = ledger (m .plants) l (parted _ [] (q₅ .1) .0) in
+    let shown = rows-shown plants (q₅ .0) in
     record {
       due = d;
       limits = record {
         few = omega (arith, d .plants, d .lent);
         periods = omega (arith, d .due, d .periods);
-        submarkets = record { at = λ i. rows-shown 0 0 plants (q₅ .0) i .0 };
-        numbers = record { at = λ i. rows-shown 0 0 plants (q₅ .0) i .1 };
-        figures = omega (arith, s .allotted, d .lent);
-        nets = omega (arith, s .accounts, d .lent);
-        bounded = q₁₉ .0;
+        submarkets = shown .0;
+        numbers = shown .1;
+        figures = omega (arith, q₁₁ .0 .allotted, d .lent);
+        nets = omega (arith, q₁₁ .0 .accounts, d .lent);
+        bounded = q₁₁ .1;
       };
     }
 
@@ -87,43 +86,38 @@ module _ (m : Month) (plants : List Plant) (l : Ledger) (lent k r : ℕ) (e : k 
   unfolding statementNumber
   long h = part-yes _ _ k 0 e z (yes _ _ _ _ (le-leb (roomFor (m .plants)) lent (omega (arith, asks))) all-yes)
 
--- the statement of the n rows that columns hold, written
-module _ (m : Month) (n : ℕ) (c : List ℕ) (l : Ledger) (text : List ℕ) (k : ℕ) (long : 2560 ≤ length c) (e : k ≡ statementNumber m (rowsOf n c) l (length text)) (z : k ≡ 0) where
-  g : Granted m (rowsOf n c) l (length text)
-  g = granted m (rowsOf n c) l (length text) k e z
-
+-- the n rows that columns hold, within limits: their statement is that of the two columns that are shown, and these can be stated
+module _ (settled n : ℕ) (c : List ℕ) (l : Ledger) (long : 2560 ≤ length c) (inside : InLimits settled (rowsOf n c) l) where
   pub few : n ≤ 512
-  few = omega (arith, g .sized .limits .few, length-rows n c)
+  few = omega (arith, inside .few, length-rows n c)
 
   made : plantsOf (columnOf 0 n c) (columnOf 1 n c) (columnOf 2 n c) (columnOf 3 n c) (columnOf 4 n c) ≡ rowsOf n c
   made = columns-rows n c long few
 
-  writable-columns : Stateable (columnOf 0 n c) (columnOf 1 n c) l × (statementLength (m .due - 1) (plantsOf (columnOf 0 n c) (columnOf 1 n c) [] [] []) l ≤ length text)
-  writable-columns =
-      let same = length-column n c long few 1 (omega arith) ∙ sym (length-column n c long few 0 (omega arith)) in
-      let inside = subst (λ (ps : List Plant). InLimits (m .due - 1) ps l) (sym made) (g .sized .limits) in
-      let w = callable (m .due - 1) (columnOf 0 n c) (columnOf 1 n c) (columnOf 2 n c) (columnOf 3 n c) (columnOf 4 n c) l same inside in
-      let rows = ap roomFor (length-column n c long few 0 (omega arith) ∙ (sym (length-rows n c) ∙ g .sized .due .lent)) in
-      (w .0, omega (arith, w .1, g .room, rows))
+  module _ (ss ns : List ℕ) (e₀ : ss ≡ columnOf 0 n c) (e₁ : ns ≡ columnOf 1 n c) where
+    pub writable : Stateable ss ns l × (statementLength settled (plantsOf ss ns [] [] []) l ≤ roomFor n)
+    writable =
+        let sized = length-column n c long few in
+        let rows = ap length e₀ ∙ sized 0 (omega arith) in
+        let same = ap length e₁ ∙ sized 1 (omega arith) ∙ sym rows in
+        let whole = (λ x. plantsOf (e₀ x) (e₁ x) (columnOf 2 n c) (columnOf 3 n c) (columnOf 4 n c)) ∙ made in
+        let w = callable settled ss ns _ _ _ l same (subst (λ (ps : List Plant). InLimits settled ps l) (sym whole) inside) in
+        (w .0, omega (arith, w .1, ap roomFor rows))
 
-  -- as the two columns that are shown are lent
-  pub writable : (ss ns : List ℕ) → ss ≡ columnOf 0 n c → ns ≡ columnOf 1 n c
-      → Stateable ss ns l × (statementLength (m .due - 1) (plantsOf ss ns [] [] []) l ≤ length text)
-  writable ss ns e₀ e₁ =
-      subst (λ (x : List ℕ). Stateable x ns l × (statementLength (m .due - 1) (plantsOf x ns [] [] []) l ≤ length text)) (sym e₀)
-      (subst (λ (x : List ℕ). Stateable (columnOf 0 n c) x l × (statementLength (m .due - 1) (plantsOf (columnOf 0 n c) x [] [] []) l ≤ length text)) (sym e₁) writable-columns)
+    pub written : {before : List ℕ} {r : ℕ} {after : List ℕ} → Fills (statementText settled (plantsOf ss ns [] [] []) l) before r after
+        → Fills (statementText settled (rowsOf n c) l) before r after
+    written {before} {r} {after} =
+        subst (λ (t : List ℕ). Fills t before r after)
+        ((λ x. statementText settled (plantsOf (e₀ x) (e₁ x) [] [] []) l) ∙ sym (text-columns settled (columnOf 0 n c) (columnOf 1 n c) _ _ _ l)
+        ∙ ap (λ (ps : List Plant). statementText settled ps l) made)
 
-  pub written : (ss ns : List ℕ) → ss ≡ columnOf 0 n c → ns ≡ columnOf 1 n c → (r : ℕ) (after : List ℕ)
-      → Fills (statementText (m .due - 1) (plantsOf ss ns [] [] []) l) text r after
-      → _≡_ {A = StatementEnd} (record { answer = record { number = 0; month = m; length = r }; bytes = after }) (statementCall m (rowsOf n c) l text)
-  unfolding statementOf statementCall
-  written ss ns e₀ e₁ r after f =
-      let same = (λ x. statementText (m .due - 1) (plantsOf (e₀ x) (e₁ x) [] [] []) l) ∙ sym (text-columns (m .due - 1) (columnOf 0 n c) (columnOf 1 n c) (columnOf 2 n c) (columnOf 3 n c) (columnOf 4 n c) l)
-      ∙ ap (λ (ps : List Plant). statementText (m .due - 1) ps l) made in
-      accepts k _ _ _ _ e z
-      (ap₂ (λ (n : ℕ) (b : List ℕ). record { answer = record { number = 0; month = m; length = n }; bytes = b })
-      (f .size ∙ ap length same)
-      (f .text ∙ ap (λ (t : List ℕ). t ++ drop (length t) text) same))
+-- the statement written: what the call answers and leaves
+pub stated : (m : Month) (plants : List Plant) (l : Ledger) (text : List ℕ) (k : ℕ) → k ≡ statementNumber m plants l (length text) → k ≡ 0
+    → (r : ℕ) (after : List ℕ) → Fills (statementText (m .due - 1) plants l) text r after
+    → _≡_ {A = StatementEnd} (record { answer = record { number = 0; month = m; length = r }; bytes = after }) (statementCall m plants l text)
+unfolding statementOf statementCall
+stated m plants l text k e z r after f =
+    accepts k _ _ _ _ e z (ap₂ (λ (n : ℕ) (b : List ℕ). record { answer = record { number = 0; month = m; length = n }; bytes = b }) (f .size) (f .text))
 
 -- a size answered
 module _ (m : Month) (plants : List Plant) (l : Ledger) (k : ℕ) where

@@ -2,52 +2,38 @@
 use mathlib.Core.Path.{_≡_, refl, sym, ap, _∙_, subst}
 use mathlib.Core.Bool.{true}
 use mathlib.Core.List.{List, [], _∷_}
-use Prim.Native.Nat.{ℕ, zero, suc, _+_, _-_, _*_, _/_, _%_, _^_, _≤_, _<_, zero-le}
-use native.Mathlib.Nat.{le-of-suc-le-suc, not-suc-le-zero}
+use Prim.Native.Nat.{ℕ, zero, suc, _-_, _*_, _^_, _≤_, _<_, zero-le}
 use native.Mathlib.Omega.{arith}
-use borrow.Author.Tests.{leb-true}
 use lib.IntN.{ℤ, natAbs, subℕ}
-use lib.ListN.{length, getD}
+use lib.ListN.{length}
 use Rattle.lists.specs.Lists.{Within}
 use Rattle.lists.specs.Columns.{_⊕_}
 use Rattle.lists.proofs.Columns.{_!_, length-rowwise}
-use Rattle.lists.proofs.Questions.{asked, both, then-zero, at-most-at}
+use Rattle.lists.proofs.Questions.{at-most-at}
 use Rattle.lists.proofs.Sums.{at-le-sum}
 use Rattle.signed.proofs.View.{net-abs}
+use Rattle.lists.proofs.Rows.{by-fours}
 use Rattle.hour.specs.declared.Plant.{Plant}
 use Rattle.hour.specs.Hour.{Hour, hourOf, covered, rights, allotment, nets}
-use Rattle.hour.specs.Table.{plantsOf, Equal}
+use Rattle.hour.specs.Table.{none, plantsOf, Equal}
 use Rattle.hour.specs.Work.{Workable, HourWorked}
 use Rattle.hour.specs.declared.Worked.{Worked}
 use Rattle.hour.proofs.Hour.{Sound, figure-le, share-le, whole-sized}
 use Rattle.hour.proofs.Figures.{allotment-at, allotment-sized, at-nets}
 use Rattle.hour.proofs.Limits.{sound}
-use Rattle.hour.proofs.Table.{plant, length-plants, plants-submarkets, plant-at}
+use Rattle.hour.proofs.Table.{plant, plants-submarkets, plant-at}
 use Rattle.blocks.specs.Portion.{Standing}
 use Rattle.records.specs.Records.{columnOf, rowsOf}
 use Rattle.records.proofs.Figures.{length-rows, length-column, columns-rows}
 use Rattle.ledger.specs.Ledger.{Ledger, inBounds}
 use Rattle.ledger.specs.Posting.{Near, Postable}
 use Rattle.month.specs.declared.Month.{Month}
-use Rattle.questions.specs.Questions.{rowNumber, rowsNumber}
-use Rattle.month.specs.Steps.{Ready, WorkableRows, inputsNumber}
+use Rattle.questions.specs.Questions.{rowsNumber}
+use Rattle.questions.proofs.Asked.{Limited, rows-limited}
+use Rattle.month.specs.Questions.{inputsNumber}
+use Rattle.month.specs.Steps.{Ready, WorkableRows}
 use Rattle.month.proofs.Accepted.{rows-standing}
 use Rattle.month.proofs.Asked.{Inputs, inputs}
-
--- a row's figures in limits (7 and 8)
-record Limited (p : Plant) : Type 0 where
-  guarantee : p .guarantee ≤ 10 ^ 12
-  loss : p .loss ≤ 1000000
-  availability : p .availability ≤ 1000000
-
-rows-limited : (s n : ℕ) (ps : List Plant) → rowsNumber s n ps ≡ 0 → (i : ℕ) (d : Plant) → i < length ps → Limited (getD ps i d)
-unfolding rowsNumber rowNumber
-rows-limited s n [] e i d h = absurd (not-suc-le-zero h)
-rows-limited s n (p ∷ ps) e zero d h =
-    let q₇ = asked _ _ _ tt (asked _ _ _ tt (asked _ _ _ tt (then-zero _ _ e .0) .1) .1) in
-    let q₈ = both _ _ (asked _ _ [] tt (q₇ .1) .0) in
-    record { guarantee = leb-true _ _ (q₇ .0); loss = leb-true _ _ (q₈ .0); availability = leb-true _ _ (q₈ .1) }
-rows-limited s n (p ∷ ps) e (suc i) d h = rows-limited (p .submarket) (p .number) ps (then-zero _ _ e .1) i d (le-of-suc-le-suc h)
 
 within-rows : (l : List ℕ) (b : ℕ) → ((i : ℕ) → i < length l → l ! i ≤ b) → (i : ℕ) → l ! i ≤ b
 within-rows [] b h i = zero-le
@@ -60,9 +46,7 @@ module _ (ss ns gs ls vs : List ℕ) (same : Equal (length ss) ns gs ls vs) (e :
   standing = subst (λ l. Standing 0 l) (plants-submarkets ss ns gs ls vs) (rows-standing 0 0 (plantsOf ss ns gs ls vs) e)
 
   limited : (i : ℕ) → i < length ss → Limited (plant (ss ! i) (ns ! i) (gs ! i) (ls ! i) (vs ! i))
-  limited i h =
-      let d : Plant = plant 0 0 0 0 0 in
-      subst Limited (plant-at i ss ns gs ls vs d h) (rows-limited 0 0 (plantsOf ss ns gs ls vs) e i d (let l = length-plants ss ns gs ls vs in omega arith))
+  limited i h = subst Limited (plant-at i ss ns gs ls vs none h) (rows-limited 0 0 (plantsOf ss ns gs ls vs) e i)
 
   guarantees-within : Within gs (10 ^ 12)
   guarantees-within = record { at = within-rows gs (10 ^ 12) (λ i h. limited i (omega (arith, same .guarantees)) .guarantee) }
@@ -148,13 +132,8 @@ module _ {m : Month} {n : ℕ} {c profile metered lent : List ℕ} {l : Ledger} 
   unfolding hourOf
   allotment-within =
       record {
-        at = λ j.
-            let g = workable-columns .generation in
-            let a = figure-le h ok (j % 4 + 1) (omega arith) (omega arith) (j / 4) in
-            let place : j % 4 + 1 - 1 + j / 4 * 4 ≡ j = omega arith in
-            let e = ap (λ (k : ℕ). allotment h ! k) place in
-            let f = allotment-at h ok (j % 4 + 1) (omega arith) (omega arith) (j / 4) in
-            omega arith;
+        at = by-fours (λ j. allotment h ! j ≤ 2 * 10 ^ 9) (λ s l k i.
+            let g = workable-columns .generation in let a = figure-le h ok s l k i in let b = allotment-at h ok s l k i in omega arith);
       }
 
   nets-near : Near (nets h) (4 * 10 ^ 9)

@@ -12,16 +12,19 @@ use Rattle.hour.specs.declared.Plant.{Plant}
 use Rattle.hour.specs.Hour.{hourOf, guarantees, secondary, coverTable, secondaryTable, allotment}
 use Rattle.ledger.specs.Ledger.{Ledger, zeros, allottedIn, netColumn, moneyColumn}
 use Rattle.month.specs.declared.Month.{Month}
-use Rattle.month.specs.declared.Opened.{Opened}
 use Rattle.month.specs.declared.Settled.{Settled}
 use Rattle.month.specs.declared.Balanced.{Balanced}
 use Rattle.month.specs.declared.Ended.{Ended}
-use Rattle.month.specs.declared.Stage.the-variants.{Open, Closed}
+use Rattle.month.specs.declared.Stage.the-variants.{Blank, Open, Closed}
 use Rattle.month.specs.Questions.{openNumber, settleNumber, closeNumber, balanceNumber, posted}
+
+-- a month that no open has begun
+abbrev pub blank : Month
+blank = record { stage = Blank; plants = 0; periods = 0; tariff = 0; due = 0 }
 
 -- 'Open sets the ledger to zeros and period 1 due'
 pub record OpenEnd : Type 0 where
-  pub answer : Opened
+  pub answer : Ended
   pub ledger : Ledger
 
 unfoldable pub openCall : Month → List Plant → List ℕ → ℕ → Ledger → OpenEnd

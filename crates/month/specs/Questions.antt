@@ -8,9 +8,10 @@ use Rattle.lists.specs.Lists.{sum, most, atMost}
 use Rattle.lists.specs.Columns.{at}
 use Rattle.lists.specs.Questions.{_⁇_, part, firstNo, inRange}
 use Rattle.hour.specs.declared.Plant.{Plant}
-use Rattle.hour.specs.Hour.{Hour, hourOf, allotment, accounts}
+use Rattle.hour.specs.Hour.{Hour, hourOf, allotment, nets}
 use Rattle.ledger.specs.Ledger.{Ledger, inBounds, added}
-use Rattle.questions.specs.Questions.{plantsInLimits, periodsInLimits, sizesNumber, lengthsNumber, tablesNumber}
+use Rattle.ledger.specs.Posting.{hourFigures}
+use Rattle.questions.specs.Questions.{plantsInLimits, periodsInLimits, sizesNumber, ledgerNumber, tablesNumber}
 use Rattle.month.specs.declared.Month.{Month}
 use Rattle.month.specs.declared.Stage.{Stage}
 use Rattle.month.specs.declared.Stage.the-variants.{Blank, Open, Closed}
@@ -55,9 +56,18 @@ meteredNumber m profile metered lent =
     ∷ eqb lent (4 * m .plants) ⁇ 18
     ∷ [])
 
+-- ... 12, 2 to 4, 13, then 5 to 11, then 14 to 18: what it asks before it works the hour, with `lent` figures in the allotment list
+unfoldable pub inputsNumber : Month → List Plant → List ℕ → List ℕ → ℕ → Ledger → ℕ
+inputsNumber m plants profile metered lent l =
+    firstNo
+    (part (ownNumber m (length plants) (length profile))
+    ∷ part (tablesNumber (m .plants) plants profile l)
+    ∷ part (meteredNumber m profile metered lent)
+    ∷ [])
+
 -- an hour's figures added to a ledger, its nets and its money at a tariff
 unfoldable pub posted : Ledger → Hour → ℕ → Ledger
-posted l h tariff = added l (record { allotted = allotment h; accounts = accounts h tariff })
+posted l h tariff = added l (hourFigures (allotment h) (nets h) tariff)
 
 -- ... 19: every ledger figure inside its bound before and after; the hour is worked in the period due
 unfoldable pub boundsNumber : Ledger → Ledger → ℕ
@@ -67,9 +77,7 @@ boundsNumber before after = firstNo ((inBounds before && inBounds after) ⁇ 19 
 unfoldable pub settleNumber : Month → List Plant → List ℕ → List ℕ → List ℕ → Ledger → ℕ
 settleNumber m plants profile metered lent l =
     firstNo
-    (part (ownNumber m (length plants) (length profile))
-    ∷ part (tablesNumber (m .plants) plants profile l)
-    ∷ part (meteredNumber m profile metered (length lent))
+    (part (inputsNumber m plants profile metered (length lent) l)
     ∷ part (boundsNumber l (posted l (hourOf plants profile metered (m .due)) (m .tariff)))
     ∷ [])
 
@@ -83,6 +91,5 @@ balanceNumber m l =
     firstNo
     (not (isBlank (m .stage)) ⁇ 21
     ∷ plantsInLimits (m .plants) ⁇ 2
-    ∷ part (lengthsNumber (m .plants) l)
-    ∷ inBounds l ⁇ 19
+    ∷ part (ledgerNumber (m .plants) l)
     ∷ [])

@@ -8,12 +8,12 @@ use lib.Dec.{leb, eqb}
 use lib.ListN.{length, drop}
 use Rattle.lists.specs.Questions.{_⁇_, part, firstNo, inRange, outcome}
 use Rattle.hour.specs.declared.Plant.{Plant}
-use Rattle.ledger.specs.Ledger.{Ledger, inBounds}
+use Rattle.ledger.specs.Ledger.{Ledger}
 use Rattle.statement.specs.Statement.{statementText, roomFor}
 use Rattle.month.specs.declared.Month.{Month}
 use Rattle.month.specs.declared.Stated.{Stated}
 use Rattle.month.specs.declared.Sized.{Sized}
-use Rattle.questions.specs.Questions.{plantsInLimits, periodsInLimits, rowsNumber, lengthsNumber}
+use Rattle.questions.specs.Questions.{plantsInLimits, periodsInLimits, rowsNumber, ledgerNumber}
 use Rattle.month.specs.Questions.{isBlank}
 
 -- Statement: 21, 2 and 3 for the month's own P and H, 13 (P only, with so many rows lent), 14 (H + 1 passes too)
@@ -33,8 +33,7 @@ sizingNumber m plants l =
     firstNo
     (part (dueNumber m (length plants))
     ∷ part (rowsNumber 0 0 plants)
-    ∷ part (lengthsNumber (m .plants) l)
-    ∷ inBounds l ⁇ 19
+    ∷ part (ledgerNumber (m .plants) l)
     ∷ [])
 
 -- ... then: at least 128P + 128 bytes lent? 22

@@ -2,7 +2,7 @@
 use crate::Balanced;
 use crate::Month;
 use crate::stages::is_blank;
-use questions::lengths_number;
+use questions::ledger_number;
 use questions::plants_in_limits;
 ghost use mathlib.Core.Path.{_≡_};
 ghost use Rattle.month.specs.Questions.{balanceNumber};
@@ -19,14 +19,7 @@ pub fn balance_number(month: Month, allotted: &[u64], accounts: &[i64]) -> u64
     if !plants_in_limits(month.plants) {
         return 2;
     }
-    let no = lengths_number(month.plants, allotted, accounts);
-    if no != 0 {
-        return no;
-    }
-    if !ledger::in_bounds(allotted, accounts) {
-        return 19;
-    }
-    0
+    ledger_number(month.plants, allotted, accounts)
 }
 
 impl Month {

@@ -24,8 +24,8 @@ pub struct Month {
     pub due: u64,
 }
 
-// What open answers: its number, and the month handed back.
-pub struct Opened {
+// What open and close answer: the number, and the month handed back.
+pub struct Ended {
     pub number: u64,
     pub month: Month,
 }
@@ -47,12 +47,6 @@ pub struct Balanced {
     pub columns: [u64; 4],
     pub net: i64,
     pub money: i64,
-}
-
-// What close answers: its number, and the month handed back.
-pub struct Ended {
-    pub number: u64,
-    pub month: Month,
 }
 
 // What the statement call answers: its number, the month handed back, and the statement's length in bytes.

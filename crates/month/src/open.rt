@@ -1,6 +1,6 @@
 // Open (document 01, 'Calls').
+use crate::Ended;
 use crate::Month;
-use crate::Opened;
 use crate::Stage;
 use crate::stages::is_open;
 use hour::Plant;
@@ -49,13 +49,13 @@ impl Month {
         tariff: u64,
         allotted: &mut [u64],
         accounts: &mut [i64],
-    ) -> Opened
+    ) -> Ended
         requires { ⌜ 2560 ≤ length (now columns) ⌝ }
         ensures { λ r. ⌜ _≡_ {A = OpenEnd} (record { answer = r; ledger = record { allotted = now (allotted .exit); accounts = now (accounts .exit) } }) (openCall self (rowsOf n (now (columns .entry))) (now (profile .entry)) tariff (record { allotted = now (allotted .entry); accounts = now (accounts .entry) })) ⌝ }
     {
         let no = open_number(self, n, columns, profile, tariff, allotted, accounts);
         if no != 0 {
-            return Opened {
+            return Ended {
                 number: no,
                 month: self,
             };
@@ -69,7 +69,7 @@ impl Month {
             tariff,
             due: 1,
         };
-        Opened {
+        Ended {
             number: 0,
             month: self,
         }
@@ -84,7 +84,7 @@ impl Month {
         tariff: u64,
         allotted: &mut [u64],
         accounts: &mut [i64],
-    ) -> Opened
+    ) -> Ended
         ensures { λ r. ⌜ ((plants : List Plant) → Held plants n c → _≡_ {A = OpenEnd} (record { answer = r; ledger = record { allotted = now (allotted .exit); accounts = now (accounts .exit) } }) (openCall self plants (now (profile .entry)) tariff (record { allotted = now (allotted .entry); accounts = now (accounts .entry) }))) ⌝ }
     {
         self.open_columns(n, &c[..], profile, tariff, allotted, accounts)
@@ -98,7 +98,7 @@ impl Month {
         tariff: u64,
         allotted: &mut [u64],
         accounts: &mut [i64],
-    ) -> Opened
+    ) -> Ended
         ensures { λ r. ⌜ _≡_ {A = OpenEnd} (record { answer = r; ledger = record { allotted = now (allotted .exit); accounts = now (accounts .exit) } }) (openCall self (now (plants .entry)) (now (profile .entry)) tariff (record { allotted = now (allotted .entry); accounts = now (accounts .entry) })) ⌝ }
     {
         let n = plants.len();

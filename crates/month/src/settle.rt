@@ -5,7 +5,7 @@ use crate::stages::is_open;
 use hour::Plant;
 use hour::Worked;
 use lists::MOST;
-use questions::in_range;
+use lists::in_range;
 use questions::sizes_number;
 use questions::tables_number;
 use questions::total;
@@ -21,9 +21,9 @@ ghost use Rattle.records.specs.Records.{rowsOf, Held};
 ghost use Rattle.transfer.specs.Calls.{noTable};
 ghost use Rattle.ledger.specs.Ledger.{inBounds, added};
 ghost use Rattle.ledger.specs.Posting.{Postable, hourFigures};
-ghost use Rattle.month.specs.Questions.{ownNumber, meteredNumber, boundsNumber};
+ghost use Rattle.month.specs.Questions.{ownNumber, meteredNumber, inputsNumber, boundsNumber};
 ghost use Rattle.month.specs.Calls.{SettleEnd, settleCall};
-ghost use Rattle.month.specs.Steps.{Ready, WorkableRows, inputsNumber};
+ghost use Rattle.month.specs.Steps.{Ready, WorkableRows};
 
 // 12, then 2 to 4 for the month's own P, H and TEO, and 13 of the rows and the profile figures lent.
 pub fn own_number(month: Month, rows: u64, figures: u64) -> u64

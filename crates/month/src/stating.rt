@@ -4,18 +4,21 @@ use crate::Sized;
 use crate::Stated;
 use crate::stages::is_blank;
 use hour::Plant;
-use questions::in_range;
-use questions::lengths_number;
+use lists::in_range;
+use questions::ledger_number;
 use questions::periods_in_limits;
 use questions::plants_in_limits;
 use questions::rows_number;
+use statement::writing::write_statement;
 ghost use mathlib.Core.Path.{_≡_};
 ghost use mathlib.Core.List.{List};
 ghost use Prim.Native.Nat.{_≤_};
 ghost use lib.ListN.{length};
 ghost use Rattle.hour.specs.declared.Plant.{Plant};
 ghost use Rattle.records.specs.Records.{rowsOf, Held};
-ghost use Rattle.statement.specs.Statement.{roomFor};
+ghost use Rattle.statement.specs.Statement.{statementText, roomFor};
+ghost use Rattle.statement.specs.Writing.{Fills};
+ghost use Rattle.statement.specs.Laws.{InLimits};
 ghost use Rattle.month.specs.Statement.{dueNumber, sizingNumber, statementNumber, StatementEnd, statementCall, Sizing};
 
 // 21, then 2 and 3 for the month's own P and H, 13 of the rows lent, and 14, where H + 1 passes too.
@@ -60,14 +63,7 @@ pub fn sizing_number(
     if no != 0 {
         return no;
     }
-    let no = lengths_number(month.plants, allotted, accounts);
-    if no != 0 {
-        return no;
-    }
-    if !ledger::in_bounds(allotted, accounts) {
-        return 19;
-    }
-    0
+    ledger_number(month.plants, allotted, accounts)
 }
 
 // The bytes that 22 asks for, with P in limits.
@@ -100,6 +96,24 @@ pub fn statement_number(
     0
 }
 
+// The statement of the n rows that columns hold, to the front of the text. The answer is its length, and the rest of the text stays.
+pub fn write_rows(
+    settled: u64,
+    n: usize,
+    columns: &[u64],
+    allotted: &[u64],
+    accounts: &[i64],
+    text: &mut [u8],
+) -> usize
+    requires { ⌜ (2560 ≤ length (now columns)) × (roomFor n ≤ length (now text)) ⌝ }
+    requires { ⌜ InLimits settled (rowsOf n (now columns)) (record { allotted = now allotted; accounts = now accounts }) ⌝ }
+    ensures { λ r. ⌜ Fills (statementText settled (rowsOf n (now (columns .entry))) (record { allotted = now (allotted .entry); accounts = now (accounts .entry) })) (now (text .entry)) r (now (text .exit)) ⌝ }
+{
+    let submarket = records::column(columns, 0, n);
+    let number = records::column(columns, 1, n);
+    write_statement(settled, submarket, number, allotted, accounts, text)
+}
+
 impl Month {
     // The statement fills the front of the lent bytes and answers its length; the rest stays. The plant table comes as the columns of n rows.
     pub fn statement_columns(
@@ -122,16 +136,7 @@ impl Month {
             };
         }
         let settled = self.due - 1;
-        let submarket = records::column(columns, 0, n);
-        let number = records::column(columns, 1, n);
-        let written = statement::writing::write_statement(
-            settled,
-            submarket,
-            number,
-            allotted,
-            accounts,
-            bytes,
-        );
+        let written = write_rows(settled, n, columns, allotted, accounts, bytes);
         Stated {
             number: 0,
             month: self,

@@ -1,23 +1,21 @@
 -- The end of the file: the refusal, or the statement after close. Assumes nothing.
-use mathlib.Core.Path.{_≡_, refl, sym, ap, ap₂, subst, _∙_}
+use mathlib.Core.Path.{_≡_, refl, sym, ap, subst, _∙_}
 use mathlib.Core.Bool.{false}
-use mathlib.Core.List.{List, [], _∷_, _++_, append-assoc}
-use Prim.Native.Nat.{ℕ, zero, suc, _+_, _-_, _*_, _^_, _≤_, _<_}
+use mathlib.Core.List.{List, [], _∷_, _++_}
+use Prim.Native.Nat.{ℕ, _+_, _-_, _*_, _^_, _≤_, _<_}
 use native.Mathlib.Omega.{arith}
 use borrow.Author.Tests.{eq-eqb, ne-eqb}
 use lib.ListN.{length, take, length-append}
 use lib.Seq.{length-take-le}
 use Rattle.lists.specs.Questions.{outcome}
-use Rattle.lists.proofs.Questions.{accepted, refuses, outcome-part, yes, all-yes, in-range}
-use Rattle.figures.specs.Figures.{figure, commasBefore, byCommas, figureLength}
+use Rattle.lists.proofs.Questions.{accepted, refuses, outcome-part, yes, all-yes, in-range, same-either}
+use Rattle.figures.specs.Figures.{commasBefore}
 use Rattle.lines.specs.Reading.{readNumber, ReadEnd, readCall}
 use Rattle.lines.specs.declared.reading.Line.{Line}
-use Rattle.lines.proofs.Accepted.{read-number}
 use Rattle.figures.proofs.Decimal.{length-le-20}
 use Rattle.hour.specs.declared.Plant.{Plant}
-use Rattle.hour.specs.Table.{plantsOf}
-use Rattle.records.specs.Records.{columnOf, rowsOf}
-use Rattle.records.proofs.Figures.{length-rows, length-column, columns-rows}
+use Rattle.records.specs.Records.{rowsOf}
+use Rattle.records.proofs.Figures.{length-rows}
 use Rattle.ledger.specs.Ledger.{Ledger}
 use Rattle.month.specs.declared.Month.{Month}
 use Rattle.month.specs.declared.Ended as month
@@ -25,12 +23,11 @@ use Rattle.questions.proofs.Asked.{rows-shown}
 use Rattle.month.specs.Questions.{closeNumber}
 use Rattle.month.specs.Calls.{closeCall}
 use Rattle.month.proofs.Accepted.{close-number}
-use Rattle.statement.specs.Statement.{line, statementText, roomFor}
-use Rattle.statement.specs.Lengths.{statementLength}
+use Rattle.statement.specs.Statement.{statementText}
 use Rattle.statement.specs.Laws.{InLimits}
-use Rattle.statement.specs.Writing.{Stateable, Fills}
-use Rattle.statement.proofs.Text.{text-columns}
-use Rattle.statement.proofs.Limits.{callable}
+use Rattle.statement.specs.Lengths.{fieldsLength, leadingLength}
+use Rattle.statement.specs.Writing.{leading, Fills}
+use Rattle.statement.proofs.Text.{line-is, length-leading}
 use Rattle.statement.proofs.Parts.{Left, left-whole}
 use Rattle.file_lines.specs.declared.MonthFile.{MonthFile}
 use Rattle.file_lines.specs.File as file
@@ -41,41 +38,37 @@ use Rattle.month_file.specs.Machine.{readingOf, unendedNumber, Finishabl
 use Rattle.file_lines.proofs.Following.{stays, reads}
 use Rattle.month_file.proofs.Bytes.{unfinished-some}
 use Rattle.file_lines.proofs.Gathered.{gathers-is}
-use Rattle.file_lines.proofs.Taken.{by-stage, begins-is, settles-is, unrefused}
+use Rattle.file_lines.proofs.Taken.{by-stage, begins-is, settles-is, unrefused, line-number}
 use Rattle.month_file.proofs.Parts.{refused-progress}
 
 -- ---- the refusal's text, field by field
 
-refusal-is : (k n : ℕ) → refusal k n ≡ (82 ∷ []) ++ ((44 ∷ figure k) ++ ((44 ∷ figure n) ++ (10 ∷ [])))
-unfolding refusal line byCommas commasBefore
-refusal-is k n = simp append-assoc
+refusal-is : (k n : ℕ) → refusal k n ≡ leading 82 k n [] ++ (10 ∷ [])
+unfolding refusal leading commasBefore
+refusal-is k n = line-is 82 (k ∷ n ∷ []) []
 
 refusal-short : (k n : ℕ) → k < 2 ^ 64 → n < 2 ^ 64 → length (refusal k n) ≤ 44
-unfolding figureLength
+unfolding leadingLength fieldsLength
 refusal-short k n a b =
     let x = length-le-20 k a in
     let y = length-le-20 n b in
-    rw (refusal-is k n) (omega (arith, length-append (figure k) (44 ∷ (figure n ++ (10 ∷ []))), length-append (figure n) (10 ∷ [])))
+    rw (refusal-is k n) (omega (arith, length-append (leading 82 k n []) (10 ∷ []), length-leading 82 k n []))
 
 pub refusal-left : (k n : ℕ) (text : List ℕ) → k < 2 ^ 64 → n < 2 ^ 64 → 44 ≤ length text
-    → Left (refusal k n) 0 text 0 text ((82 ∷ []) ++ ((44 ∷ figure k) ++ ((44 ∷ figure n) ++ (10 ∷ []))))
+    → Left (refusal k n) 0 text 0 text (leading 82 k n [] ++ (10 ∷ []))
 refusal-left k n text a b h = left-whole (record { fits = omega (arith, refusal-short k n a b) }) (refusal-is k n)
 
 -- ---- a line without its byte 10
-
-unended-number : (line old : List ℕ) {answer : Line} {new : List ℕ} → length old ≡ 513
-    → _≡_ {A = ReadEnd} (record { answer = answer; figures = new }) (readCall line old) → answer .number ≡ readNumber line 513
-unended-number line old many e = read-number line old e ∙ ap (readNumber line) many
 
 module _ (f : MonthFile) (line old new : List ℕ) (answer : Line) (many : length old ≡ 513)
     (e : _≡_ {A = ReadEnd} (record { answer = answer; figures = new }) (readCall line old)) where
   pub unended-refused : (r : MonthFile) → r ≡ atRefusal f (answer .number) → (answer .number ≡ 0 → ⊥) → r ≡ atRefusal f (unendedNumber line)
   unfolding unendedNumber
-  unended-refused r q z = q ∙ ap (atRefusal f) (refuses (answer .number) (readNumber line 513) 31 _ (λ n. n) (unended-number line old many e) z refl)
+  unended-refused r q z = q ∙ ap (atRefusal f) (refuses (answer .number) (readNumber line 513) 31 _ (λ n. n) (line-number line old many e) z refl)
 
   pub unended-31 : (r : MonthFile) → r ≡ atRefusal f 31 → answer .number ≡ 0 → r ≡ atRefusal f (unendedNumber line)
   unfolding unendedNumber
-  unended-31 r q z = q ∙ ap (atRefusal f) (sym (accepted (readNumber line 513) 31 (λ n. n) (sym (unended-number line old many e) ∙ z)))
+  unended-31 r q z = q ∙ ap (atRefusal f) (sym (accepted (readNumber line 513) 31 (λ n. n) (sym (line-number line old many e) ∙ z)))
 
 unended-reads : (k : ℕ) (p : Progress) (bytes : List ℕ) → read k p (record { bytes = bytes; ended = false }) ≡ file.refuses k (unendedNumber bytes)
 unfolding read unendedNumber
@@ -126,11 +119,6 @@ module _ (f : MonthFile) (k : Kept) (v : Valid f k) (line : List ℕ) where
 
 -- ---- the statement after close
 
-same-either : (n x : ℕ) → outcome n x (λ _. x) ≡ x
-unfolding outcome
-same-either zero x = refl
-same-either (suc n) x = refl
-
 -- close leaves the period that is due
 close-due : (m : Month) → closeCall m .month .due ≡ m .due
 unfolding closeCall
@@ -172,58 +160,26 @@ module _ (f : MonthFile) (k : Kept) (w : Finishable f k) (end : month.Ended) (e 
   pub some-due : 1 ≤ end .month .due
   some-due = omega (arith, month-due, w .last)
 
-  abbrev ss : List ℕ
-  ss = columnOf 0 (m .plants) (k .columns)
-
-  abbrev ns : List ℕ
-  ns = columnOf 1 (m .plants) (k .columns)
-
   p-rows : length rows ≡ m .plants
   p-rows = length-rows (m .plants) (k .columns)
 
-  made : plantsOf ss ns (columnOf 2 (m .plants) (k .columns)) (columnOf 3 (m .plants) (k .columns)) (columnOf 4 (m .plants) (k .columns)) ≡ rows
-  made = columns-rows (m .plants) (k .columns) (w .valid .lent .columns) (g .counted .plants)
-
-  in-limits : InLimits settled rows ledger
+  pub in-limits : InLimits settled rows ledger
   unfolding ledgerOf
   in-limits =
       record {
         few = omega (arith, p-rows, g .counted .plants);
         periods = omega (arith, month-due, w .last, g .counted .periods);
-        submarkets = record { at = λ i. rows-shown 0 0 rows (g .rows) i .0 };
-        numbers = record { at = λ i. rows-shown 0 0 rows (g .rows) i .1 };
+        submarkets = rows-shown rows (g .rows) .0;
+        numbers = rows-shown rows (g .rows) .1;
         figures = length-take-le (4 * m .plants) (k .allotted) (omega (arith, g .counted .plants, w .valid .lent .allotted)) ∙ ap (λ (n : ℕ). 4 * n) (sym p-rows);
         nets = length-take-le (2 * m .plants) (k .accounts) (omega (arith, g .counted .plants, w .valid .lent .accounts)) ∙ ap (λ (n : ℕ). 2 * n) (sym p-rows);
         bounded = g .bounded;
       }
 
-  s-rows : length ss ≡ m .plants
-  s-rows = length-column (m .plants) (k .columns) (w .valid .lent .columns) (g .counted .plants) 0 (omega arith)
-
-  n-rows : length ns ≡ m .plants
-  n-rows = length-column (m .plants) (k .columns) (w .valid .lent .columns) (g .counted .plants) 1 (omega arith)
-
-  statable-columns : (text : List ℕ) → 128 * 512 + 128 ≤ length text
-      → Stateable ss ns ledger × (statementLength settled (plantsOf ss ns [] [] []) ledger ≤ length text)
-  unfolding roomFor
-  statable-columns text h =
-      let c = callable settled ss ns _ _ _ ledger (n-rows ∙ sym s-rows) (subst (λ (ps : List Plant). InLimits settled ps ledger) (sym made) in-limits) in
-      (c .0, omega (arith, c .1, s-rows, g .counted .plants))
-
-  -- the two columns that are shown, as they are lent
-  module _ (xs ys : List ℕ) (x : xs ≡ ss) (y : ys ≡ ns) where
-    pub statable : (text : List ℕ) → 128 * 512 + 128 ≤ length text
-        → Stateable xs ys ledger × (statementLength settled (plantsOf xs ys [] [] []) ledger ≤ length text)
-    statable text h =
-        subst (λ (l : List ℕ). Stateable l ys ledger × (statementLength settled (plantsOf l ys [] [] []) ledger ≤ length text)) (sym x)
-        (subst (λ (l : List ℕ). Stateable ss l ledger × (statementLength settled (plantsOf ss l [] [] []) ledger ≤ length text)) (sym y) (statable-columns text h))
-
-    pub closing-stated : {before : List ℕ} {r : ℕ} {after : List ℕ} → Fills (statementText settled (plantsOf xs ys [] [] []) ledger) before r after
-        → Fills (printed (f .count) (progressOf f k)) before r after
-    closing-stated {before} {r} {after} h =
-        subst (λ (t : List ℕ). Fills t before r after)
-        (ap₂ (λ (a b : List ℕ). statementText settled (plantsOf a b [] [] []) ledger) x y ∙ sym (text-columns settled ss ns _ _ _ ledger)
-        ∙ ap (λ (ps : List Plant). statementText settled ps ledger) made ∙ sym (accepted (end .number) _ (refusal (f .count)) z) ∙ sym prints) h
+  pub closing-stated : {before : List ℕ} {r : ℕ} {after : List ℕ} → Fills (statementText settled rows ledger) before r after
+      → Fills (printed (f .count) (progressOf f k)) before r after
+  closing-stated {before} {r} {after} =
+      subst (λ (t : List ℕ). Fills t before r after) (sym (accepted (end .number) _ (refusal (f .count)) z) ∙ sym prints)
 
 -- ---- what is printed
 

@@ -159,16 +159,6 @@ pub record Alike (line₀ : List ℕ) (k₀ : Kept) (line : List ℕ) (k : Kept)
   pub allotted : length (k .allotted) ≡ length (k₀ .allotted)
   pub accounts : length (k .accounts) ≡ length (k₀ .accounts)
 
-pub alike-self : {line : List ℕ} {k : Kept} → Alike line k line k
-alike-self =
-    record {
-      bytes = refl;
-      columns = refl;
-      profile = refl;
-      allotted = refl;
-      accounts = refl;
-    }
-
 module _ {line₀ : List ℕ} {k₀ : Kept} {line : List ℕ} {k : Kept} {line₁ : List ℕ} {k₁ : Kept} where
   pub alike-more : Alike line₀ k₀ line k → Alike line k line₁ k₁
       → Alike line₀ k₀ line₁ k₁
@@ -190,6 +180,9 @@ bytes-alike l =
       allotted = refl;
       accounts = refl;
     }
+
+pub alike-self : {line : List ℕ} {k : Kept} → Alike line k line k
+alike-self = bytes-alike refl
 
 -- a line that has ended, taken
 line-taken : (f : MonthFile) (k : Kept) → Valid f k → f .stage ≤ 2 → (line : List ℕ) {r : MonthFile} {q : Kept}

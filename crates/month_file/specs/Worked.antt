@@ -10,14 +10,15 @@ use Rattle.sharing.specs.Sharing.{parts, share}
 use Rattle.transfer.specs.Transfer.{serve, transfer}
 use Rattle.blocks.specs.Portion.{portion}
 use Rattle.cover.specs.Cover.{own, ownParts, table, got, rest}
-use Rattle.hour.specs.Hour.{hourOf, modulated, guaranteed, submarkets, guarantees, secondary, covered, deficit, surplus, leftOver, rights, ownCover, coverGot, ownSecondary, secondaryGot, coverTable, secondaryTable, figure, nets, allotment, accounts}
+use Rattle.hour.specs.Hour.{hourOf, modulated, guaranteed, submarkets, guarantees, secondary, covered, deficit, surplus, leftOver, rights, ownCover, coverGot, ownSecondary, secondaryGot, coverTable, secondaryTable, figure, nets, allotment}
 use Rattle.ledger.specs.Ledger.{inBounds, zeros, added}
 use Rattle.figures.specs.Figures as text
 use Rattle.lines.specs.Fields.{toFirst, fields}
 use Rattle.lines.specs.Reading.{startsWith, lineStart, startLength, lineFields, countFits, readNumber}
 use Rattle.questions.specs.Questions.{sizesNumber, placed, numbered, rowNumber, rowsNumber, lengthsNumber, tablesNumber}
-use Rattle.month.specs.Questions.{isOpen, isBlank, openNumber, ownNumber, meteredNumber, posted, boundsNumber, settleNumber, closeNumber}
+use Rattle.month.specs.Questions.{isOpen, isBlank, openNumber, ownNumber, meteredNumber, inputsNumber, posted, boundsNumber, settleNumber, closeNumber}
 use Rattle.month.specs.Calls.{openCall, settleCall, closeCall}
+use Rattle.statement.specs.Worked.{first, second, third, total}
 use Rattle.statement.specs.Statement.{line, plantLine, plantLines, totalLine, statementText}
 use Rattle.file_lines.specs.File.{unfinished, linesAfter, lines, plantOf, inTurn, begun, opened, settled, taken, read, next, refusal, printed, following, settledFile}
 
@@ -45,29 +46,13 @@ hour1 = 72 ∷ 44 ∷ 49 ∷ 44 ∷ 49 ∷ 56 ∷ 48 ∷ 10 ∷ []
 abbrev meters1 : List ℕ
 meters1 = 71 ∷ 44 ∷ 49 ∷ 44 ∷ 49 ∷ 51 ∷ 48 ∷ 44 ∷ 50 ∷ 48 ∷ 44 ∷ 51 ∷ 48 ∷ 10 ∷ []
 
--- `A,1,10,85,0,0,0,45,58500` and its byte 10
-abbrev row10 : List ℕ
-row10 = 65 ∷ 44 ∷ 49 ∷ 44 ∷ 49 ∷ 48 ∷ 44 ∷ 56 ∷ 53 ∷ 44 ∷ 48 ∷ 44 ∷ 48 ∷ 44 ∷ 48 ∷ 44 ∷ 52 ∷ 53 ∷ 44 ∷ 53 ∷ 56 ∷ 53 ∷ 48 ∷ 48 ∷ 10 ∷ []
-
--- `A,1,11,43,0,0,0,-23,-29900` and its byte 10
-abbrev row11 : List ℕ
-row11 = 65 ∷ 44 ∷ 49 ∷ 44 ∷ 49 ∷ 49 ∷ 44 ∷ 52 ∷ 51 ∷ 44 ∷ 48 ∷ 44 ∷ 48 ∷ 44 ∷ 48 ∷ 44 ∷ 45 ∷ 50 ∷ 51 ∷ 44 ∷ 45 ∷ 50 ∷ 57 ∷ 57 ∷ 48 ∷ 48 ∷ 10 ∷ []
-
--- `A,2,20,22,30,0,0,-22,-28600` and its byte 10
-abbrev row20 : List ℕ
-row20 = 65 ∷ 44 ∷ 50 ∷ 44 ∷ 50 ∷ 48 ∷ 44 ∷ 50 ∷ 50 ∷ 44 ∷ 51 ∷ 48 ∷ 44 ∷ 48 ∷ 44 ∷ 48 ∷ 44 ∷ 45 ∷ 50 ∷ 50 ∷ 44 ∷ 45 ∷ 50 ∷ 56 ∷ 54 ∷ 48 ∷ 48 ∷ 10 ∷ []
-
--- `T,1,3,150,30,0,0,180` and its byte 10
-abbrev totals1 : List ℕ
-totals1 = 84 ∷ 44 ∷ 49 ∷ 44 ∷ 51 ∷ 44 ∷ 49 ∷ 53 ∷ 48 ∷ 44 ∷ 51 ∷ 48 ∷ 44 ∷ 48 ∷ 44 ∷ 48 ∷ 44 ∷ 49 ∷ 56 ∷ 48 ∷ 10 ∷ []
-
 -- the file
 abbrev file : List ℕ
 file = sizes ++ (plant10 ++ (plant11 ++ (plant20 ++ (hour1 ++ meters1))))
 
 -- its statement
 abbrev statement : List ℕ
-statement = row10 ++ (row11 ++ (row20 ++ totals1))
+statement = first ++ (second ++ (third ++ total))
 
 pub record Worked : Type 0 where
   shown : settledFile file ≡ statement
@@ -85,5 +70,5 @@ pub record Worked : Type 0 where
   asked : settledFile (sizes ++ (plant11 ++ (plant10 ++ (plant20 ++ hour1)))) ≡ 82 ∷ 44 ∷ 53 ∷ 44 ∷ 54 ∷ 10 ∷ []
 
 pub worked : Worked
-unfolding rowwise sum every atMost joined totals transpose flatten _then_ firstNo inRange outcome parts share serve transfer hourOf modulated guaranteed portion own ownParts table got rest submarkets guarantees secondary covered deficit surplus leftOver rights ownCover coverGot ownSecondary secondaryGot coverTable secondaryTable figure nets allotment accountsOf accounts column sumℤ isWithin inBounds zeros added posted isOpen isBlank sizesNumber placed numbered rowNumber rowsNumber lengthsNumber tablesNumber openNumber ownNumber meteredNumber boundsNumber settleNumber closeNumber openCall settleCall closeCall text.digits text.figure text.minus text.signedFigure text.commasBefore text.byCommas text.valueFrom text.value text.isDigit text.leadingZero text.isFigure toFirst fields startsWith lineStart startLength lineFields countFits readNumber line plantLine plantLines totalLine statementText unfinished linesAfter lines plantOf inTurn begun opened settled taken read next refusal printed following settledFile
+unfolding rowwise sum every atMost joined totals transpose flatten _then_ firstNo inRange outcome parts share serve transfer hourOf modulated guaranteed portion own ownParts table got rest submarkets guarantees secondary covered deficit surplus leftOver rights ownCover coverGot ownSecondary secondaryGot coverTable secondaryTable figure nets allotment accountsOf column sumℤ isWithin inBounds zeros added posted isOpen isBlank sizesNumber placed numbered rowNumber rowsNumber lengthsNumber tablesNumber openNumber ownNumber meteredNumber inputsNumber boundsNumber settleNumber closeNumber openCall settleCall closeCall text.digits text.figure text.minus text.signedFigure text.commasBefore text.byCommas text.valueFrom text.value text.isDigit text.leadingZero text.isFigure toFirst fields startsWith lineStart startLength lineFields countFits readNumber line plantLine plantLines totalLine statementText unfinished linesAfter lines plantOf inTurn begun opened settled taken read next refusal printed following settledFile
 worked = record { shown = refl; empty = refl; blankLine = refl; oneMore = refl; unended = refl; early = refl; asked = refl }

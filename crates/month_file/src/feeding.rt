@@ -4,6 +4,7 @@ use file_lines::MonthFile;
 use file_lines::taking::take_line;
 ghost use Prim.Native.Nat.{_≤_, _<_};
 ghost use lib.ListN.{length};
+ghost use Rattle.lines.specs.Fields.{longest};
 ghost use Rattle.file_lines.specs.State.{Kept, kept, Valid};
 ghost use Rattle.month_file.specs.Machine.{Stepped, Fed};
 
@@ -16,7 +17,7 @@ struct Step {
 
 // The bytes up to the end of a line, or of the part. One for which the line has no room gives 26; after a refusal none matters.
 fn next_line(file: MonthFile, part: &[u8], from: usize, line: &mut [u8]) -> Step
-    requires { ⌜ (from < length (now part)) × (8192 ≤ length (now line)) × (file .length ≤ 8192) × (file .stage ≤ 2 → file .count < 10000) ⌝ }
+    requires { ⌜ (from < length (now part)) × (longest ≤ length (now line)) × (file .length ≤ longest) × (file .stage ≤ 2 → file .count < 10000) ⌝ }
     ensures { λ r. ⌜ ((k : Kept) → Valid file k → Stepped file k (now (line .entry)) (now (part .entry)) from (r .file) (now (line .exit)) (r .at) (r .ended)) ⌝ }
 {
     if 2 < file.stage {
@@ -63,7 +64,7 @@ pub fn feed(
     allotted: &mut [u64],
     accounts: &mut [i64],
 ) -> MonthFile
-    requires { ⌜ 8192 ≤ length (now line) ⌝ }
+    requires { ⌜ longest ≤ length (now line) ⌝ }
     requires { ⌜ Valid file (kept (now columns) (now profile) (now allotted) (now accounts)) ⌝ }
     ensures { λ r. ⌜ Fed file (kept (now (columns .entry)) (now (profile .entry)) (now (allotted .entry)) (now (accounts .entry))) (now (line .entry)) (now (part .entry)) r (kept (now (columns .exit)) (now (profile .exit)) (now (allotted .exit)) (now (accounts .exit))) (now (line .exit)) ⌝ }
 {

@@ -1,12 +1,16 @@
 // The end of the file: the statement after close, or the refusal, is written.
 use figures::writing::write_byte;
-use figures::writing::write_field;
 use file_lines::MonthFile;
+use ledger::ACCOUNTS;
+use ledger::ALLOTTED;
 use lines::reading::read_line;
-use statement::writing::write_statement;
+use month::stating::write_rows;
+use statement::writing::write_leading;
 ghost use mathlib.Core.Path.{_≡_};
-ghost use Prim.Native.Nat.{_+_, _*_, _≤_, _<_};
+ghost use Prim.Native.Nat.{_≤_, _<_};
 ghost use lib.ListN.{length};
+ghost use Rattle.lines.specs.Fields.{longest};
+ghost use Rattle.statement.specs.Statement.{roomFor};
 ghost use Rattle.statement.specs.Writing.{Fills};
 ghost use Rattle.file_lines.specs.File.{refusal, printed};
 ghost use Rattle.month_file.specs.Bytes.{finished};
@@ -18,9 +22,7 @@ fn write_refusal(line: u64, number: u64, text: &mut [u8]) -> usize
     requires { ⌜ 44 ≤ length (now text) ⌝ }
     ensures { λ r. ⌜ Fills (refusal line number) (now (text .entry)) r (now (text .exit)) ⌝ }
 {
-    let end = write_byte(b'R', text, 0);
-    let end = write_field(line, text, end);
-    let end = write_field(number, text, end);
+    let end = write_leading(b'R', line, number, &[0u64; 0], text, 0);
     write_byte(b'\n', text, end)
 }
 
@@ -68,21 +70,19 @@ fn write_month(
     accounts: &[i64],
     text: &mut [u8],
 ) -> usize
-    requires { ⌜ Finishable file (kept (now columns) (now profile) (now allotted) (now accounts)) × (128 * 512 + 128 ≤ length (now text)) ⌝ }
+    requires { ⌜ Finishable file (kept (now columns) (now profile) (now allotted) (now accounts)) × (roomFor 512 ≤ length (now text)) ⌝ }
     ensures { λ r. ⌜ Fills (printed (file .count) (progressOf file (kept (now (columns .entry)) (now (profile .entry)) (now (allotted .entry)) (now (accounts .entry))))) (now (text .entry)) r (now (text .exit)) ⌝ }
 {
     let month = file.month;
     let end = month.close();
     let closed = end.month;
     let rows = month.plants as usize;
-    let fours = 4 * rows;
-    let twos = 2 * rows;
-    let submarket = records::column(columns, 0, rows);
-    let number = records::column(columns, 1, rows);
-    write_statement(
+    let fours = ALLOTTED * rows;
+    let twos = ACCOUNTS * rows;
+    write_rows(
         closed.due - 1,
-        submarket,
-        number,
+        rows,
+        columns,
         &allotted[..fours],
         &accounts[..twos],
         text,
@@ -99,7 +99,7 @@ pub fn finish(
     accounts: &[i64],
     text: &mut [u8],
 ) -> usize
-    requires { ⌜ (8192 ≤ length (now line)) × (128 * 512 + 128 ≤ length (now text)) ⌝ }
+    requires { ⌜ (longest ≤ length (now line)) × (roomFor 512 ≤ length (now text)) ⌝ }
     requires { ⌜ Valid file (kept (now columns) (now profile) (now allotted) (now accounts)) ⌝ }
     ensures { λ r. ⌜ Fills (finished (readingOf file (kept (now (columns .entry)) (now (profile .entry)) (now (allotted .entry)) (now (accounts .entry))) (now (line .entry)))) (now (text .entry)) r (now (text .exit)) ⌝ }
 {

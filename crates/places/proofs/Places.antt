@@ -4,46 +4,32 @@ use mathlib.Core.Bool.{Bool, true, false}
 use mathlib.Core.List.{List, []}
 use Prim.Native.Nat.{ℕ, zero, suc, _+_, _-_, _≤_, _<_, zero-le}
 use native.Mathlib.Omega.{arith}
-use borrow.Author.Tests.{ltb-true, leb-true, leb-false}
+use borrow.Author.Tests.{leb-true, leb-false}
 use lib.Dec.{leb}
 use lib.ListN.{length, take, drop, getD}
 use Rattle.lists.specs.Questions.{outcome}
-use Rattle.lists.proofs.Questions.{asked}
 use Rattle.lines.specs.Fields.{nextComma, fields, fieldNumber, fieldBytes, startOf, fieldStart}
 use Rattle.lines.specs.Inner.{firstField, Starts}
-use Rattle.lines.proofs.Commas.{next-high, field-long, fields-more, fields-last, field-part, field-absent, field-there, bytes-none, bytes-there}
-use Rattle.lines.proofs.Parts.{starts-there, start-none, start-there}
+use Rattle.lines.proofs.Commas.{next-high, field-long, fields-more, fields-last, field-part, field-there}
+use Rattle.lines.proofs.Parts.{starts-there, start-none, bytes-none, present, in-line, start-there, bytes-there}
 use Rattle.places.specs.declared.FieldPlace.{FieldPlace}
 use Rattle.places.specs.Parts.{fieldPlace}
 use Rattle.places.specs.Laws.{Parts}
 
 -- ---- what the call answers
 
-present : (l : List ℕ) (index n : ℕ) → n ≡ fieldNumber l index → n ≡ 0 → index < length (fields l)
-unfolding fieldNumber
-present l index n e z = ltb-true _ _ (asked _ _ [] tt (asked _ _ _ tt (sym e ∙ z) .1) .0)
-
 module _ (l : List ℕ) (index : ℕ) where
   pub no-place : (n : ℕ) → n ≡ fieldNumber l index → (n ≡ 0 → ⊥) → _≡_ {A = FieldPlace} (record { number = n; start = 0; length = 0 }) (fieldPlace l index)
   unfolding fieldPlace
-  no-place n e h =
-      let some : 0 < n = omega arith in
-      rw (← e, ← start-none l index n e some, ← bytes-none l index n e some)
+  no-place n e h = rw (← e, ← start-none l index e h, ← bytes-none l index e h)
 
   module _ {n r : ℕ} (s : Starts l index r) (e : n ≡ fieldNumber l index) (z : n ≡ 0) where
-    pub in-line : r ≤ length l
-    in-line = by (leb r (length l)) refl
-      where
-        by : (t : Bool) → leb r (length l) ≡ t → r ≤ length l
-        by true p = leb-true r (length l) p
-        by false p = absurd (omega (arith, field-absent s (leb-false r (length l) p), present l index n e z))
-
     pub placed : {c : ℕ} → c ≡ nextComma l r → _≡_ {A = FieldPlace} (record { number = 0; start = r; length = c - r }) (fieldPlace l index)
     unfolding fieldPlace
     placed {c} p =
         let number : 0 ≡ fieldNumber l index = sym z ∙ e in
-        let long : c - r ≡ length (firstField (drop r l)) = omega (arith, field-long l r in-line) in
-        rw (← number, ← start-there l index s in-line number, ← bytes-there l index number (sym (field-there s in-line)), long)
+        let long : c - r ≡ length (firstField (drop r l)) = omega (arith, field-long l r (in-line l index e z s)) in
+        rw (← number, ← start-there l index e z s, ← bytes-there l index e z s, long)
 
 -- ---- the promises
 
@@ -69,7 +55,7 @@ there l (suc index) at h k = by (leb (length l) (nextComma l at)) refl (there l 
 
 starts : (l : List ℕ) (index : ℕ) → fieldNumber l index ≡ 0 → Starts l index (startOf l index) × (startOf l index ≤ length l)
 starts l index z =
-    let k = present l index (fieldNumber l index) refl z in
+    let k = present l index refl z in
     let t = there l index 0 zero-le k in
     let is : t .position ≡ startOf l index = starts-there l index (t .position) (t .inside) k (t .rest) in
     (record { there = λ h. t .rest ∙ ap (λ (r : ℕ). fields (drop r l)) is; absent = λ h. absurd (omega (arith, is, t .inside)) }, omega (arith, is, t .inside))

@@ -11,7 +11,8 @@ use Rattle.lists.specs.Questions.{_then_}
 use Rattle.lists.proofs.Questions.{then-no, then-yes}
 use Rattle.hour.specs.declared.Plant.{Plant}
 use Rattle.hour.proofs.Table.{plant}
-use Rattle.records.specs.Records.{none, rowAt, rowsOf}
+use Rattle.hour.specs.Table.{none}
+use Rattle.records.specs.Records.{rowAt, rowsOf}
 use Rattle.records.proofs.Figures.{length-rows, row-at}
 use Rattle.questions.specs.Questions.{rowNumber, rowsNumber}
 

@@ -1,4 +1,4 @@
--- "The questions, in the order they are put": 2 to 11, of the sizes, the plant table, the profile and the ledger's lists, which several calls put. Assumes nothing.
+-- "The questions, in the order they are put": 2 to 11, of the sizes, the plant table, the profile and the ledger's lists, and 19 of a ledger at hand, which several calls put. Assumes nothing.
 use Prim.Native.Nat.{ℕ, _*_, _^_}
 use mathlib.Core.Bool.{Bool, not, _&&_, _||_}
 use mathlib.Core.List.{List, [], _∷_}
@@ -7,7 +7,7 @@ use lib.ListN.{length}
 use Rattle.lists.specs.Lists.{sum, most, atMost}
 use Rattle.lists.specs.Questions.{_⁇_, part, _then_, firstNo, inRange}
 use Rattle.hour.specs.declared.Plant.{Plant}
-use Rattle.ledger.specs.Ledger.{Ledger}
+use Rattle.ledger.specs.Ledger.{Ledger, inBounds}
 
 -- 2: P in limits
 abbrev pub plantsInLimits : ℕ → Bool
@@ -47,6 +47,10 @@ rowsNumber s₀ n₀ (p ∷ ps) = rowNumber s₀ n₀ p then rowsNumber (p .subm
 -- 11: ledger lists of exactly 4P and 2P
 unfoldable pub lengthsNumber : ℕ → Ledger → ℕ
 lengthsNumber p l = firstNo ((eqb (length (l .allotted)) (4 * p) && eqb (length (l .accounts)) (2 * p)) ⁇ 11 ∷ [])
+
+-- 11, then 19: every figure of the ledger at hand inside its bound
+unfoldable pub ledgerNumber : ℕ → Ledger → ℕ
+ledgerNumber p l = firstNo (part (lengthsNumber p l) ∷ inBounds l ⁇ 19 ∷ [])
 
 -- 5 to 11
 unfoldable pub tablesNumber : ℕ → List Plant → List ℕ → Ledger → ℕ

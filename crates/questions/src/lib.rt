@@ -1,20 +1,13 @@
-// Questions 2 to 11, which several calls put (document 01, 'The questions'): each function answers the number of its definition.
+// Questions 2 to 11, and 19 of a ledger at hand, which several calls put (document 01, 'The questions'): each function answers the number of its definition.
 use lists::MOST;
+use lists::in_range;
 ghost use mathlib.Core.Path.{_≡_};
 ghost use mathlib.Core.Bool.{true};
 ghost use Prim.Native.Nat.{_≤_};
 ghost use lib.ListN.{length};
 ghost use Rattle.lists.specs.Lists.{sum, most, atMost};
-ghost use Rattle.lists.specs.Questions.{inRange};
 ghost use Rattle.records.specs.Records.{rowsOf};
-ghost use Rattle.questions.specs.Questions.{plantsInLimits, periodsInLimits, sizesNumber, placed, numbered, rowNumber, rowsNumber, lengthsNumber, tablesNumber};
-
-// Is a figure from low up to high?
-pub fn in_range(low: u64, high: u64, figure: u64) -> bool
-    ensures { λ r. ⌜ r ≡ inRange low high figure ⌝ }
-{
-    low <= figure && figure <= high
-}
+ghost use Rattle.questions.specs.Questions.{plantsInLimits, periodsInLimits, sizesNumber, placed, numbered, rowNumber, rowsNumber, lengthsNumber, ledgerNumber, tablesNumber};
 
 // 2: P in limits?
 pub fn plants_in_limits(plants: u64) -> bool
@@ -138,6 +131,21 @@ pub fn lengths_number(plants: u64, allotted: &[u64], accounts: &[i64]) -> u64
     }
     if accounts.len() as u64 != 2 * plants {
         return 11;
+    }
+    0
+}
+
+// 11, then 19: every figure of the ledger at hand inside its bound.
+pub fn ledger_number(plants: u64, allotted: &[u64], accounts: &[i64]) -> u64
+    requires { ⌜ plants ≤ 512 ⌝ }
+    ensures { λ r. ⌜ r ≡ ledgerNumber plants (record { allotted = now (allotted .entry); accounts = now (accounts .entry) }) ⌝ }
+{
+    let no = lengths_number(plants, allotted, accounts);
+    if no != 0 {
+        return no;
+    }
+    if !ledger::in_bounds(allotted, accounts) {
+        return 19;
     }
     0
 }

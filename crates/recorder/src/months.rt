@@ -6,8 +6,8 @@ use kept_month::KeptMonth;
 use kept_month::KeptSettle;
 use kept_month::KeptSized;
 use kept_month::KeptStated;
+use kept_month::ended_kept;
 use kept_month::month_of;
-use kept_month::opened_kept;
 use kept_month::settled_kept;
 use kept_month::sized_kept;
 use kept_month::stated_kept;
@@ -28,7 +28,7 @@ pub extern "C" fn iolwarch_open(
 {
     let meant = month_of(month);
     let opened = meant.open(plants, profile, tariff, allotted, accounts);
-    opened_kept(month, opened)
+    ended_kept(month, opened)
 }
 
 // Month::settle.

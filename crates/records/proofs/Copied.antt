@@ -10,7 +10,8 @@ use lib.ListN.{length, getD, take, drop, length-set, length-take, drop-of-length
 use lib.Seq.{drop-cons, getD-take}
 use lib.WfN.{Nat·lt-wfRel}
 use Rattle.hour.specs.declared.Plant.{Plant}
-use Rattle.records.specs.Records.{none, putRow, putRows}
+use Rattle.hour.specs.Table.{none}
+use Rattle.records.specs.Records.{putRow, putRows}
 
 pub length-putRow : (c : List ℕ) (i : ℕ) (p : Plant) → length (putRow c i p) ≡ length c
 unfolding putRow

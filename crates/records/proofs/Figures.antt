@@ -5,14 +5,15 @@ use Prim.Native.Nat.{ℕ, zero, suc, _+_, _*_, _<_, _≤_, min}
 use native.Mathlib.Nat.{add-zero, zero-add}
 use native.Mathlib.Numerals.{add-one}
 use native.Mathlib.Omega.{arith}
-use lib.ListN.{length, getD, take, drop, set, length-set, length-take, length-drop}
-use lib.Seq.{getD-take, getD-drop, getD-set-same, getD-set-other, ext-getD}
+use lib.ListN.{length, getD, take, set, length-set, length-take, length-drop}
+use lib.Seq.{getD-take, getD-set-same, getD-set-other, ext-getD}
 use Rattle.lists.specs.Lists.{table, tableFrom}
+use Rattle.lists.proofs.Parts.{part-at}
 use Rattle.lists.proofs.Sums.{length-table, getD-table}
 use Rattle.hour.specs.declared.Plant.{Plant}
-use Rattle.hour.specs.Table.{plantsOf}
+use Rattle.hour.specs.Table.{none, plantsOf}
 use Rattle.hour.proofs.Table.{length-plants, plant-at}
-use Rattle.records.specs.Records.{none, columnOf, rowAt, rowsOf, Held, putRow, putRows}
+use Rattle.records.specs.Records.{columnOf, rowAt, rowsOf, Held, putRow, putRows}
 use Rattle.records.proofs.Copied.{length-putRow, take-min}
 
 -- a place that is of no column's row i
@@ -172,7 +173,7 @@ module _ (n : ℕ) (c : List ℕ) (e : 2560 ≤ length c) (few : n ≤ 512) wher
 
   column-at : (k i : ℕ) → i < n → getD (columnOf k n c) i 0 ≡ getD c (512 * k + i) 0
   unfolding columnOf
-  column-at k i l = getD-take n (drop (512 * k) c) i 0 l ∙ getD-drop (512 * k) c i 0
+  column-at k i l = part-at n (512 * k) c i 0 l
 
   row-made : (i : ℕ) → i < n
       → _≡_ {A = Plant} (record { submarket = getD (columnOf 0 n c) i 0; number = getD (columnOf 1 n c) i 0; guarantee = getD (columnOf 2 n c) i 0; loss = getD (columnOf 3 n c) i 0; availability = getD (columnOf 4 n c) i 0 }) (rowAt c i)

@@ -6,10 +6,7 @@ use mathlib.Core.List.{List, [], _∷_}
 use lib.ListN.{length, getD, set, take, drop}
 use Rattle.lists.specs.Lists.{table}
 use Rattle.hour.specs.declared.Plant.{Plant}
-
--- what stands past the end of the table
-abbrev pub none : Plant
-none = record { submarket = 0; number = 0; guarantee = 0; loss = 0; availability = 0 }
+use Rattle.hour.specs.Table.{none}
 
 -- n figures of column k, counted from 0 in the order of a P line
 unfoldable pub columnOf : ℕ → ℕ → List ℕ → List ℕ

@@ -11,7 +11,7 @@ use lib.Seq.{drop-cons, getD-set-same, getD-set-other, ext-getD}
 use borrow.Author.Tests.{eq-eqb, ne-eqb}
 use Rattle.lists.specs.Lists.{sum}
 use Rattle.lists.specs.Columns.{rowwise, _⊖_, within, inside, at, totals}
-use Rattle.lists.proofs.Columns.{_!_, each, at-totals, at-⊖, sum-le, within-le}
+use Rattle.lists.proofs.Columns.{_!_, each, at-totals, sum-le, fewer, within-le}
 
 -- A loop that sums xs by submarket: with u the sums of the first i rows
 pub record Totalling (subs xs : List ℕ) (i : ℕ) (u : List ℕ) : Type 0 where
@@ -76,4 +76,4 @@ module _ {subs xs : List ℕ} where
 -- what is over in a submarket is no more than the sum
 pub over-le : (s : ℕ) (subs xs ys : List ℕ) → sum (within s subs (xs ⊖ ys)) ≤ sum xs
 over-le s subs xs ys =
-    sum-le (within s subs (xs ⊖ ys)) xs (λ i. let a = within-le s subs (xs ⊖ ys) i in let b = at-⊖ xs ys i in omega arith)
+    let a = sum-le (within s subs (xs ⊖ ys)) (xs ⊖ ys) (within-le s subs (xs ⊖ ys)) in let b = fewer xs ys in omega arith

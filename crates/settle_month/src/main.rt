@@ -7,8 +7,10 @@ use libc::STDIN_FILENO;
 use libc::STDOUT_FILENO;
 use month_file::feeding::feed;
 use month_file::finishing::finish;
-ghost use Prim.Native.Nat.{_*_, _+_, _≤_};
+ghost use Prim.Native.Nat.{_≤_};
 ghost use lib.ListN.{length, take};
+ghost use Rattle.lines.specs.Fields.{longest};
+ghost use Rattle.statement.specs.Statement.{roomFor};
 ghost use Rattle.io.specs.Counts.{clamped};
 ghost use Rattle.file_lines.specs.State.{kept, Lent, Valid};
 ghost use Rattle.month_file.specs.Machine.{Fed};
@@ -31,7 +33,7 @@ fn take_part(
     allotted: &mut [u64],
     accounts: &mut [i64],
 ) -> MonthFile
-    requires { ⌜ 8192 ≤ length (now line) ⌝ }
+    requires { ⌜ longest ≤ length (now line) ⌝ }
     requires { ⌜ Valid file (kept (now columns) (now profile) (now allotted) (now accounts)) ⌝ }
     ensures { λ r. ⌜ Fed file (kept (now (columns .entry)) (now (profile .entry)) (now (allotted .entry)) (now (accounts .entry))) (now (line .entry)) (take (clamped got (length (now (part .entry)))) (now (part .entry))) r (kept (now (columns .exit)) (now (profile .exit)) (now (allotted .exit)) (now (accounts .exit))) (now (line .exit)) ⌝ }
 {
@@ -50,7 +52,7 @@ fn take_input(
     allotted: &mut [u64],
     accounts: &mut [i64],
 ) -> Input
-    requires { ⌜ 8192 ≤ length (now line) ⌝ }
+    requires { ⌜ longest ≤ length (now line) ⌝ }
     requires { ⌜ Valid file (kept (now columns) (now profile) (now allotted) (now accounts)) ⌝ }
     ensures { λ r. ⌜ Taken (place file (kept (now (columns .entry)) (now (profile .entry)) (now (allotted .entry)) (now (accounts .entry))) (now (line .entry))) (place (r .file) (kept (now (columns .exit)) (now (profile .exit)) (now (allotted .exit)) (now (accounts .exit))) (now (line .exit))) ⌝ }
 {
@@ -80,7 +82,7 @@ fn settle_input(
     accounts: &mut [i64],
     text: &mut [u8],
 ) -> usize
-    requires { ⌜ (8192 ≤ length (now line)) × (128 * 512 + 128 ≤ length (now text)) ⌝ }
+    requires { ⌜ (longest ≤ length (now line)) × (roomFor 512 ≤ length (now text)) ⌝ }
     requires { ⌜ Lent (kept (now columns) (now profile) (now allotted) (now accounts)) ⌝ }
     ensures { λ r. ⌜ Settled (now (text .entry)) r (now (text .exit)) ⌝ }
 {

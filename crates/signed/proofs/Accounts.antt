@@ -7,7 +7,7 @@ use lib.IntN.{ℤ, pos, _*ℤ_, zero-*ℤ, *ℤ-one, one}
 use lib.ListN.{length, getD, length-map, List·getD-map}
 use lib.Seq.{ext-getD}
 use Rattle.lists.specs.Columns.{column}
-use Rattle.lists.proofs.Rows.{Even, column-at, column-byRow, length-byRow}
+use Rattle.lists.proofs.Rows.{Even, column-place, column-byRow, length-byRow}
 use Rattle.signed.specs.Figures.{atRate, accountsOf}
 
 -- each net at a rate: the nets themselves at 1, money at the tariff
@@ -42,14 +42,9 @@ module _ (tariff : ℕ) (nets : List ℤ) where
 
   -- figure by figure, for the code that writes them
   pub net-at : (i : ℕ) → getD (accountsOf tariff nets) (2 * i) (pos 0) ≡ getD nets i (pos 0)
-  net-at i =
-      let place : 2 * i ≡ 0 + i * 2 = omega arith in
-      ap (λ (k : ℕ). getD (accountsOf tariff nets) k (pos 0)) place
-      ∙ sym (column-at 2 0 (omega arith) (accountsOf tariff nets) i (pos 0)) ∙ ap (λ (zs : List ℤ). getD zs i (pos 0)) accounts-net
+  net-at i = sym (column-place 2 0 (omega arith) (accountsOf tariff nets) i (pos 0) (omega arith)) ∙ ap (λ (zs : List ℤ). getD zs i (pos 0)) accounts-net
 
   pub money-at : (i : ℕ) → getD (accountsOf tariff nets) (2 * i + 1) (pos 0) ≡ getD nets i (pos 0) *ℤ pos tariff
   money-at i =
-      let place : 2 * i + 1 ≡ 1 + i * 2 = omega arith in
-      ap (λ (k : ℕ). getD (accountsOf tariff nets) k (pos 0)) place
-      ∙ sym (column-at 2 1 (omega arith) (accountsOf tariff nets) i (pos 0)) ∙ ap (λ (zs : List ℤ). getD zs i (pos 0)) accounts-money
+      sym (column-place 2 1 (omega arith) (accountsOf tariff nets) i (pos 0) (omega arith)) ∙ ap (λ (zs : List ℤ). getD zs i (pos 0)) accounts-money
       ∙ at-rate tariff nets i

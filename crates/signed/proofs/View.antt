@@ -1,6 +1,6 @@
 -- A signed number z as a difference of two naturals, `up z` less `dn z`, one of which is 0. `omega` reads no ℤ, and reads these.
 --     view-plus, view-minus, view-neg   what the parts of a sum, a difference and a negation are, as facts for `omega`'s list
---     view-lt, view-ge                  what a test `<` that held, or failed, says of the parts
+--     view-ge                           what a test `z < 0` that failed says of the parts
 --     same-view                         two signed numbers with one difference are equal
 --     abs-plus, abs-minus, abs-times    bounds on absolute values
 --     sfits-abs, back                   a figure whose absolute value is below 2 ^ 63 fits an `i64`, and is read back from its bits
@@ -13,7 +13,7 @@ use native.Mathlib.Omega.{arith}
 use borrow.Author.Tests.{ltb-true, ltb-false}
 use lib.Dec.{T, ltb}
 use lib.IntN.{ℤ, pos, negsuc, negℤ, natAbs, subℕ, _+ℤ_, _-ℤ_, _*ℤ_}
-use lib.Signed.{mag, ltZ, nonNeg, natAbs-le}
+use lib.Signed.{mag, ltZ, nonNeg}
 use mir.Syntax.{w64}
 use mir.Val.{SFits}
 
@@ -118,17 +118,9 @@ times-plus x y t =
 
 -- ---- the order
 
-pub view-lt : (x y : ℤ) → ltZ x y ≡ true → up x + dn y < up y + dn x
-view-lt (pos a) (pos b) e = omega (arith, ltb-true a b e)
-view-lt (pos a) (negsuc b) e = absurd (subst T (sym e) tt)
-view-lt (negsuc a) (pos b) e = omega arith
-view-lt (negsuc a) (negsuc b) e = omega (arith, ltb-true b a e)
-
-pub view-ge : (x y : ℤ) → ltZ x y ≡ false → up y + dn x ≤ up x + dn y
-view-ge (pos a) (pos b) e = omega (arith, ltb-false a b e)
-view-ge (pos a) (negsuc b) e = omega arith
-view-ge (negsuc a) (pos b) e = absurd (subst T e tt)
-view-ge (negsuc a) (negsuc b) e = omega (arith, ltb-false b a e)
+pub view-ge : (z : ℤ) → ltZ z (pos 0) ≡ false → dn z ≤ up z
+view-ge (pos n) e = omega arith
+view-ge (negsuc n) e = absurd (subst T e tt)
 
 pub view-nonneg : (z : ℤ) → dn z ≤ up z → T (nonNeg z)
 view-nonneg (pos n) h = tt
@@ -142,11 +134,6 @@ abs-plus x y = omega (arith, view-plus x y, view-abs x, view-abs y, view-abs (x 
 pub abs-minus : (x y : ℤ) → natAbs (x -ℤ y) ≤ natAbs x + natAbs y
 abs-minus x y = omega (arith, view-minus x y, view-abs x, view-abs y, view-abs (x -ℤ y))
 
--- z is at most b and at least −b. One part of z is 0, which `omega` does not know
-pub abs-le : (z : ℤ) (b : ℕ) → up z ≤ b + dn z → dn z ≤ b + up z → natAbs z ≤ b
-abs-le (pos n) b h k = omega arith
-abs-le (negsuc n) b h k = omega arith
-
 pub abs-neg : (x : ℤ) → natAbs (negℤ x) ≡ natAbs x
 abs-neg x = omega (arith, view-neg x, view-abs x, view-abs (negℤ x))
 
@@ -159,9 +146,6 @@ abs-times (negsuc a) t = abs-neg (pos (suc a * t))
 mag-abs : (z : ℤ) → mag z ≤ natAbs z
 mag-abs (pos n) = omega arith
 mag-abs (negsuc n) = omega arith
-
-pub abs-mag : (z : ℤ) → mag z < 2 ^ 63 → natAbs z ≤ 2 ^ 63
-abs-mag z h = natAbs-le z h
 
 pub sfits-abs : (z : ℤ) → natAbs z < 2 ^ 63 → SFits w64 z
 sfits-abs z h = record { sfits = lt-of-le-of-lt (mag-abs z) h }

@@ -32,18 +32,9 @@ pub fn times(x: i64, t: u64) -> i64
 
 // Is a figure within a bound of zero?
 pub fn is_within(bound: u64, x: i64) -> bool
-    requires { ⌜ bound < 2 ^ 63 ⌝ }
     ensures { λ r. ⌜ r ≡ isWithin bound x ⌝ }
 {
-    let high = bound as i64;
-    if high < x {
-        return false;
-    }
-    let low = 0 - high;
-    if x < low {
-        return false;
-    }
-    true
+    magnitude(x) <= bound
 }
 
 // A figure of a list, added to.
@@ -51,7 +42,7 @@ pub fn add_at(figures: &mut [i64], at: usize, x: i64)
     requires { ⌜ (at < length (now figures)) × (natAbs (getD (now figures) at (pos 0)) + natAbs x < 2 ^ 63) ⌝ }
     ensures { λ _. ⌜ now (figures .exit) ≡ set (now (figures .entry)) at (getD (now (figures .entry)) at (pos 0) +ℤ x) ⌝ }
 {
-    figures[at] += x;
+    figures[at] = plus(figures[at], x);
 }
 
 // How far a figure is from zero. The lowest one has no opposite in 64 bits.

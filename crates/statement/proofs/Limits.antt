@@ -2,17 +2,19 @@
 use mathlib.Core.Path.{_≡_, sym, ap, subst, _∙_}
 use mathlib.Core.Bool.{true}
 use mathlib.Core.List.{List, [], _∷_, map}
-use Prim.Native.Nat.{ℕ, zero, suc, _+_, _*_, _^_, _≤_, _<_}
+use Prim.Native.Nat.{ℕ, suc, _+_, _*_, _^_, _≤_, _<_}
 use native.Mathlib.Nat.{suc-mul, add-zero}
 use native.Mathlib.Omega.{arith}
-use lib.IntN.{ℤ, pos, negsuc, natAbs}
+use lib.IntN.{ℤ, pos, natAbs}
 use lib.ListN.{length, take, drop, getD, length-take}
 use lib.Seq.{getD-drop}
 use Rattle.lists.specs.Lists.{sum, Within}
 use Rattle.lists.specs.Columns.{four}
 use Rattle.lists.proofs.Columns.{four-le}
-use Rattle.figures.specs.Figures.{minus, signedFigure, figureLength, signedFigureLength}
+use Rattle.lists.proofs.Parts.{take-le}
+use Rattle.figures.specs.Figures.{figureLength}
 use Rattle.figures.proofs.Decimal.{length-le, length-small}
+use Rattle.figures.proofs.Signs.{signed-length-le}
 use Rattle.hour.specs.declared.Plant.{Plant}
 use Rattle.hour.specs.Table.{plantsOf}
 use Rattle.hour.proofs.Table.{length-plants}
@@ -47,12 +49,6 @@ module _ {ss ns : List ℕ} {l : Ledger} (ok : Stateable ss ns l) where
 
 -- ---- lengths
 
--- a signed figure takes one byte more at most
-signed-le : (z : ℤ) → signedFigureLength z ≤ 1 + figureLength (natAbs z)
-unfolding signedFigureLength signedFigure minus figureLength
-signed-le (pos n) = omega arith
-signed-le (negsuc n) = omega arith
-
 -- figures of at most d digits
 fields-le : (d : ℕ) (xs : List ℕ) → ((i : ℕ) → figureLength (getD xs i 0) ≤ d) → fieldsLength xs ≤ length xs * (d + 1)
 unfolding fieldsLength
@@ -65,17 +61,11 @@ module _ (p : Plant) (figures : List ℕ) (net money : ℤ) where
       → natAbs money ≤ moneyBound → plantLineLength p figures net money ≤ 101
   unfolding plantLineLength leadingLength fieldsLength
   plant-line-low s n k w a b =
-      omega (arith, length-small (p .submarket) (omega arith), length-le 5 (p .number) (omega arith), fields-le 13 figures (λ i. length-le 12 (getD figures i 0) (omega (arith, w .at i))), signed-le net, length-le 12 (natAbs net) (omega arith), signed-le money, length-le 16 (natAbs money) (omega arith))
+      omega (arith, length-small (p .submarket) (omega arith), length-le 5 (p .number) (omega arith), fields-le 13 figures (λ i. length-le 12 (getD figures i 0) (omega (arith, w .at i))), signed-length-le 12 net (omega arith), signed-length-le 16 money (omega arith))
 
 -- the first four figures of those that are left
 first-four : (al : List ℕ) (b : ℕ) → Within al b → Within (take 4 al) b
-first-four al b h = record { at = low al (h .at) 4 }
-  where
-    low : (xs : List ℕ) → ((i : ℕ) → getD xs i 0 ≤ b) → (n i : ℕ) → getD (take n xs) i 0 ≤ b
-    low xs h zero i = omega arith
-    low [] h (suc n) i = omega arith
-    low (x ∷ xs) h (suc n) zero = h 0
-    low (x ∷ xs) h (suc n) (suc i) = low xs (λ j. h (suc j)) n i
+first-four al b h = record { at = λ i. omega (arith, take-le 4 al i, h .at i) }
 
 -- the nets and the money of rows that are left
 abbrev Rows : ℕ → ℕ → List ℤ → Type 0

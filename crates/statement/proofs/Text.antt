@@ -23,7 +23,7 @@ use Rattle.statement.specs.Lengths.{fieldsLength, leadingLength, plantLi
 -- ---- lines, field by field
 
 -- figures behind a line's letter, and the fields behind them
-line-is : (letter : ℕ) (xs : List ℕ) (gs : List (List ℕ)) → line ((letter ∷ []) ∷ (map figure xs ++ gs)) ≡ (letter ∷ fieldsText xs) ++ (commasBefore gs ++ (10 ∷ []))
+pub line-is : (letter : ℕ) (xs : List ℕ) (gs : List (List ℕ)) → line ((letter ∷ []) ∷ (map figure xs ++ gs)) ≡ (letter ∷ fieldsText xs) ++ (commasBefore gs ++ (10 ∷ []))
 unfolding line byCommas fieldsText commasBefore
 line-is letter xs gs = ap (λ (l : List ℕ). letter ∷ l) (behind xs)
   where
@@ -111,7 +111,7 @@ unfolding fieldsText commasBefore fieldsLength figureLength
 length-fields [] = refl
 length-fields (x ∷ xs) = length-append (44 ∷ figure x) (fieldsText xs) ∙ omega (arith, length-fields xs)
 
-length-leading : (letter x y : ℕ) (xs : List ℕ) → length (leading letter x y xs) ≡ leadingLength x y xs
+pub length-leading : (letter x y : ℕ) (xs : List ℕ) → length (leading letter x y xs) ≡ leadingLength x y xs
 unfolding leading leadingLength
 length-leading letter x y xs = omega (arith, length-fields (x ∷ y ∷ xs))
 

@@ -11,7 +11,7 @@ use Rattle.ledger.specs.Ledger.{Ledger}
 use Rattle.statement.specs.Statement.{line, plantLine, plantLines, totalLine, statementText}
 
 -- `P,1,10,100,..`, `P,1,11,50,..`, `P,2,20,60,..`
-abbrev plant : ℕ → ℕ → ℕ → Plant
+abbrev pub plant : ℕ → ℕ → ℕ → Plant
 plant s n q = record { submarket = s; number = n; guarantee = q; loss = 1000000; availability = 1000000 }
 
 abbrev pub plants : List Plant

@@ -14,7 +14,7 @@ use Rattle.statement.specs.Statement.{plantLine}
 unfoldable pub fieldsText : List ℕ → List ℕ
 fieldsText xs = commasBefore (map figure xs)
 
--- how A and T lines begin: a letter, two figures, and a list of figures
+-- how A, T and R lines begin: a letter, two figures, and a list of figures
 unfoldable pub leading : ℕ → ℕ → ℕ → List ℕ → List ℕ
 leading letter x y figures = letter ∷ fieldsText (x ∷ y ∷ figures)
 

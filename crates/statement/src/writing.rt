@@ -28,8 +28,15 @@ fn write_fields(figures: &[u64], text: &mut [u8], at: usize) -> usize
     end
 }
 
-// How A and T lines begin: a letter, two figures, and a list of figures.
-fn write_leading(letter: u8, x: u64, y: u64, figures: &[u64], text: &mut [u8], at: usize) -> usize
+// How A, T and R lines begin: a letter, two figures, and a list of figures.
+pub fn write_leading(
+    letter: u8,
+    x: u64,
+    y: u64,
+    figures: &[u64],
+    text: &mut [u8],
+    at: usize,
+) -> usize
     requires { ⌜ Room (leading letter x y (now figures)) at (now text) ⌝ }
     ensures { λ r. ⌜ Wrote (leading letter x y (now (figures .entry))) at (now (text .entry)) (now (text .exit)) r ⌝ }
 {

@@ -5,7 +5,7 @@ use native.Mathlib.Omega.{arith}
 use mathlib.Core.List.{List, [], _∷_}
 use lib.ListN.{length, getD}
 use Rattle.lists.specs.Lists.{sum}
-use Rattle.lists.specs.Columns.{rowwise, _⊖_, joined, transpose}
+use Rattle.lists.specs.Columns.{rowwise, _⊖_, Below, joined, four, at, transpose}
 use Rattle.lists.proofs.Sums.{at-le-sum}
 use Rattle.lists.proofs.Columns.{_!_, length-rowwise, at-⊕, at-⊖, sum-⊖, sum-ext, at-joined, transpose-at, transpose-sum}
 use Rattle.sharing.specs.Sharing.{Rule}
@@ -25,13 +25,13 @@ module _ {rule : Rule} (L : Lawful rule) where
   fallen t ws h = let a = sum-⊖ ws (rule t ws) (L .bounded t ws h) in let b = adds-le L t ws h in omega arith
 
   -- amounts in turn: each is shared whole, and none gives more than it has
-  pub serve-adds : (ws ts : List ℕ) → sum ts ≤ sum ws → (r : ℕ) → sum (getD (serve rule ws ts) r []) ≡ ts ! r
+  serve-adds : (ws ts : List ℕ) → sum ts ≤ sum ws → (r : ℕ) → sum (getD (serve rule ws ts) r []) ≡ ts ! r
   unfolding serve sum
   serve-adds ws [] h r = refl
   serve-adds ws (t ∷ ts) h zero = adds-le L t ws (omega arith)
   serve-adds ws (t ∷ ts) h (suc r) = serve-adds (ws ⊖ rule t ws) ts (let a = fallen t ws (omega arith) in omega arith) r
 
-  pub serve-under : (ws ts : List ℕ) → sum ts ≤ sum ws → (i : ℕ) → joined (serve rule ws ts) ! i ≤ ws ! i
+  serve-under : (ws ts : List ℕ) → sum ts ≤ sum ws → Below (joined (serve rule ws ts)) ws
   unfolding serve sum joined
   serve-under ws [] h i = omega arith
   serve-under ws (t ∷ ts) h i =
@@ -83,10 +83,9 @@ four-is d (x ∷ y ∷ []) e = absurd (omega arith)
 four-is d (x ∷ y ∷ z ∷ []) e = absurd (omega arith)
 four-is d (x ∷ y ∷ z ∷ w ∷ v ∷ xs) e = absurd (omega arith)
 
-pub four-⊖ : (xs ys : List ℕ) → length xs ≡ 4 → length ys ≡ 4
-    → (xs ! 0 - ys ! 0) ∷ (xs ! 1 - ys ! 1) ∷ (xs ! 2 - ys ! 2) ∷ (xs ! 3 - ys ! 3) ∷ [] ≡ xs ⊖ ys
+pub four-rowwise : (f : ℕ → ℕ → ℕ) (xs ys : List ℕ) → length xs ≡ 4 → length ys ≡ 4 → four (λ s. f (at s xs 0) (at s ys 0)) ≡ rowwise f 0 0 xs ys
 unfolding rowwise
-four-⊖ xs ys p q = sym (rw (four-is 0 xs p, four-is 0 ys q))
+four-rowwise f xs ys p q = sym (rw (four-is 0 xs p, four-is 0 ys q))
 
 pub four-sum : (xs : List ℕ) → length xs ≡ 4 → xs ! 0 + xs ! 1 + xs ! 2 + xs ! 3 ≡ sum xs
 unfolding sum

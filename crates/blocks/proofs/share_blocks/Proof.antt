@@ -5,7 +5,7 @@ use Prim.Native.Nat.{ℕ, _+_, _-_, _*_, _≤_, _<_}
 use native.Mathlib.Omega.{arith}
 use lib.ListN.{length, take, drop, getD}
 use Rattle.lists.specs.Lists.{sum}
-use Rattle.lists.specs.Columns.{_⊖_, totals}
+use Rattle.lists.specs.Columns.{_⊖_, Below, totals}
 use Rattle.lists.proofs.Sums.{part-le-sum}
 use Rattle.sharing.specs.Sharing.{share}
 use Rattle.sharing.proofs.Sharing.{share-lawful}
@@ -55,8 +55,8 @@ total c =
     ap (λ (l : List ℕ). getD l (c .before .loop .s) 0) (s .pre .1 .0 .0)
     ∙ total-block (s .args .t1) (length (s .args .want .now)) (s .pre .0 .0) (s .args .want .now) refl (c .before .loop .s) (c .loop-test .taken)
 
-fits : (c : tie.Start Inv-loop μ-loop) (s : ℕ) → getD (c .args .t2) s 0 ≤ getD (totals (standingAt (c .args .t1)) (c .args .want .now)) s 0
-fits c s = subst (λ (l : List ℕ). getD (c .args .t2) s 0 ≤ getD l s 0) (c .pre .1 .0 .0) (c .pre .1 .0 .2 s)
+fits : (c : tie.Start Inv-loop μ-loop) → Below (c .args .t2) (totals (standingAt (c .args .t1)) (c .args .want .now))
+fits c = subst (Below (c .args .t2)) (c .pre .1 .0 .0) (c .pre .1 .0 .2)
 
 lent : (c : tie.In-loop Inv-loop μ-loop) → let s = c .before .before .before .before .before in let l = c .before .loop in
     take (getD (s .args .t1) (l .s + 1) 0 - getD (s .args .t1) (l .s) 0)

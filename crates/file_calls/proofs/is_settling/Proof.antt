@@ -2,8 +2,8 @@
 use mathlib.Core.Path.{sym, _∙_}
 use native.Mathlib.Omega.{arith}
 use borrow.Author.Needs.{needs}
+use Rattle.lists.proofs.Parts.{front-count}
 use Rattle.file_lines.specs.State.{ledgerOf}
-use Rattle.file_lines.proofs.Opened.{front-count}
 use Rattle.file_calls.proofs.Checked.{no, alike, by-value, denied, granted}
 use Rattle.file_calls.proofs.is_settling.Statement.{statement}
 use Rattle.file_calls.proofs.is_settling.Tie as tie

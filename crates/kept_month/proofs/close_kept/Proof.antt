@@ -9,5 +9,5 @@ close-kept-spec =
     (tie.spec
     (λ c κs. tt)  -- month-of-requires
     (λ c κs. tt)  -- close-requires
-    (λ c κs. tt)  -- handed-back-requires
-    (λ c. closes _ (c .before .before .before .month-of .ensures) (c .before .before .close .ensures) (c .handed-back .ensures)))  -- returns
+    (λ c κs. tt)  -- ended-kept-requires
+    (λ c. closes _ (c .before .before .month-of .ensures) (c .before .close .ensures) (c .ended-kept .ensures)))  -- returns

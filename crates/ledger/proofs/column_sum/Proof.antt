@@ -4,14 +4,16 @@ use Prim.Native.Nat.{_-_}
 use native.Mathlib.Nat.{mul-le-mul-right}
 use native.Mathlib.Omega.{arith}
 use borrow.Author.Needs.{needs}
-use lib.ListN.{length}
-use Rattle.lists.proofs.Strides.{Gathering, gathering, gathering-more, gathering-le, gathered, column-within}
+use lib.ListN.{length, drop}
+use Rattle.lists.specs.Columns.{column}
+use Rattle.lists.proofs.Loops.{Adding, adding, adding-more, adding-le, added}
+use Rattle.lists.proofs.Rows.{stride, stride-more, stride-none, column-within}
 use Rattle.ledger.specs.Ledger.{kwhBound}
 use Rattle.ledger.proofs.column_sum.Statement.{statement}
 use Rattle.ledger.proofs.column_sum.Tie as tie
 
 abbrev Inv-loop : tie.InvT-loop
-Inv-loop width start figures total₀ i₀ total i = Gathering width start figures i total
+Inv-loop width start figures total₀ i₀ total i = Adding (column width start figures) (column width 0 (drop i figures)) total
 
 abbrev μ-loop : tie.MeasureT-loop
 μ-loop width start figures total₀ i₀ total i = length figures - i
@@ -20,10 +22,10 @@ add-total : tie.Need-add-total Inv-loop μ-loop
 add-total c =
     let a = c .before .before in
     let s = a .before in
-    omega (arith, gathering-le (s .pre .0) (a .loop .inv) (c .before .loop-test .taken), column-within (s .args .width) (s .args .start) (s .args .figures .now) kwhBound (s .pre .3), mul-le-mul-right kwhBound (s .pre .2))
+    omega (arith, adding-le (a .loop .inv) (stride-more _ (s .pre .0) _ _ 0 (c .before .loop-test .taken)), column-within (s .args .width) (s .args .start) (s .args .figures .now) kwhBound (s .pre .3), mul-le-mul-right kwhBound (s .pre .2))
 
 loop-again : tie.Need-loop-again Inv-loop μ-loop
-loop-again c = gathering-more (c .before .before .before .pre .0) (c .before .before .loop .inv) (c .before .loop-test .taken) refl
+loop-again c = adding-more (c .before .before .loop .inv) (stride-more _ (c .before .before .before .pre .0) _ _ 0 (c .before .loop-test .taken)) refl
 
 pub column-sum-spec : {M : Type 1} → statement M
 column-sum-spec =
@@ -31,11 +33,11 @@ column-sum-spec =
     (tie.spec
     Inv-loop
     μ-loop
-    (λ c. gathering)
+    (λ c. rw (← stride) adding)
     (λ c. search needs)
     (λ c. search needs)
     add-total
     (λ c. search needs)
     (λ c. search needs)
     loop-again
-    (λ c. gathered (c .before .loop .inv) (c .loop-test .left)))
+    (λ c. added (c .before .loop .inv) (stride-none _ _ _ (c .loop-test .left))))

@@ -4,21 +4,20 @@ use Prim.Native.Nat.{_+_, _-_, _*_}
 use native.Mathlib.Omega.{arith}
 use borrow.Author.Needs.{needs}
 use lib.IntN.{ℤ, pos, natAbs, _+ℤ_, _*ℤ_}
-use lib.ListN.{length, getD}
+use lib.ListN.{length, getD, drop}
 use mir.Syntax.{w64}
 use mir.Val.{toZ, ofZ}
-use Rattle.lists.specs.Columns.{_⊕ℤ_, column}
 use Rattle.lists.proofs.Loops.{Passing, passing, passing-more, halted, passed}
 use Rattle.lists.proofs.Questions.{refused, granted}
-use Rattle.signed.specs.Figures.{isWithin, atRate}
+use Rattle.signed.specs.Figures.{isWithin}
 use Rattle.signed.proofs.Machine.{read-is, result-is}
 use Rattle.ledger.specs.Ledger.{accountsWidth}
-use Rattle.ledger.proofs.Posting.{rated-small, length-after, after-at}
+use Rattle.ledger.proofs.Posting.{rated-small, after, after-more, after-none, after-at}
 use Rattle.ledger.proofs.column_within_after.Statement.{statement}
 use Rattle.ledger.proofs.column_within_after.Tie as tie
 
 abbrev Inv-loop : tie.InvT-loop
-Inv-loop bound start accounts nets rate i₀ i = Passing (isWithin bound) (column accountsWidth start accounts ⊕ℤ atRate rate nets) i
+Inv-loop bound start accounts nets rate i₀ i = Passing (isWithin bound) (after accounts nets rate start) (drop i (after accounts nets rate start))
 
 abbrev μ-loop : tie.MeasureT-loop
 μ-loop bound start accounts nets rate i₀ i = length nets - i
@@ -52,7 +51,7 @@ figure-is c = read-is _ (c .plus-arg .given)
 test : (c : tie.After-is-within Inv-loop μ-loop)
     → let a = c .before .before .before .before .before .before in
     let s = a .before .args in
-    c .is-within .result ≡ isWithin (s .bound) (getD (column accountsWidth (s .start) (s .accounts .now) ⊕ℤ atRate (s .rate) (s .nets .now)) (a .loop .i) (pos 0))
+    c .is-within .result ≡ isWithin (s .bound) (getD (after (s .accounts .now) (s .nets .now) (s .rate) (s .start)) (a .loop .i) (pos 0))
 unfolding net more figure
 test c =
     let a = c .before .before .before .before .before .before in
@@ -61,40 +60,32 @@ test c =
     ∙ ap (isWithin (s .bound))
     (result-is (c .before .plus .result) (c .before .plus .ok)
     (c .before .plus .ensures ∙ ap₂ _+ℤ_ (figure-is (c .before .before)) (more-is (c .before .before .before)))
-    ∙ sym (after-at (s .accounts .now) (s .nets .now) (s .rate) (s .start) (a .before .pre .2) (a .before .pre .1) (a .loop .i)))
+    ∙ sym (after-at (s .accounts .now) (s .nets .now) (s .rate) (s .start) (a .before .pre .1) (a .before .pre .0) (a .loop .i)))
 
 times-requires : tie.Need-times-requires Inv-loop μ-loop
 unfolding net
 times-requires c κs =
     let a = c .before .before in
-    omega (arith, ap natAbs (net-is c), a .before .pre .2 .hour .at (a .loop .i))
+    omega (arith, ap natAbs (net-is c), a .before .pre .1 .hour .at (a .loop .i))
 
 plus-requires : tie.Need-plus-requires Inv-loop μ-loop
 unfolding net more figure
 plus-requires c κs =
     let a = c .before .before .before .before in
-    omega (arith, ap natAbs (figure-is c), ap natAbs (more-is (c .before)), rated-small (a .before .pre .2) (a .loop .i), a .before .pre .2 .ledger .at (accountsWidth * a .loop .i + a .before .args .start))
+    omega (arith, ap natAbs (figure-is c), ap natAbs (more-is (c .before)), rated-small (a .before .pre .1) (a .loop .i), a .before .pre .1 .ledger .at (accountsWidth * a .loop .i + a .before .args .start))
 
 returns : tie.Need-returns Inv-loop μ-loop
 returns c =
-    let a = c .before .before .before .before .before .before .before in
-    let s = a .before .args in
-    let long = length-after (s .accounts .now) (s .nets .now) (s .rate) (s .start) (a .before .pre .2) (a .before .pre .1) in
-    halted (pos 0) (a .loop .inv) (omega arith) (refused _ _ (test (c .before)) (c .if1 .taken))
+    let t = c .before .before .before .before .before .before in
+    halted (t .before .loop .inv) (after-more _ _ _ _ (t .before .before .pre .1) (t .before .before .pre .0) (t .loop-test .taken)) (refused _ _ (test (c .before)) (c .if1 .taken))
 
 loop-again : tie.Need-loop-again Inv-loop μ-loop
 loop-again c =
-    let a = c .before .before .before .before .before .before .before in
-    let s = a .before .args in
-    let long = length-after (s .accounts .now) (s .nets .now) (s .rate) (s .start) (a .before .pre .2) (a .before .pre .1) in
-    passing-more (pos 0) (a .loop .inv) (omega arith) (granted _ _ (test (c .before)) (c .if1 .left))
+    let t = c .before .before .before .before .before .before in
+    passing-more (t .before .loop .inv) (after-more _ _ _ _ (t .before .before .pre .1) (t .before .before .pre .0) (t .loop-test .taken)) (granted _ _ (test (c .before)) (c .if1 .left))
 
 returns-2 : tie.Need-returns-2 Inv-loop μ-loop
-returns-2 c =
-    let a = c .before in
-    let s = a .before .args in
-    let long = length-after (s .accounts .now) (s .nets .now) (s .rate) (s .start) (a .before .pre .2) (a .before .pre .1) in
-    passed (a .loop .inv) (omega arith)
+returns-2 c = let a = c .before in passed (a .loop .inv) (after-none _ _ _ _ (a .before .pre .1) (a .before .pre .0) (c .loop-test .left))
 
 pub column-within-after-spec : {M : Type 1} → statement M
 column-within-after-spec =

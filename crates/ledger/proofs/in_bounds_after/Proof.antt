@@ -6,10 +6,10 @@ use Rattle.ledger.proofs.in_bounds_after.Statement.{statement}
 use Rattle.ledger.proofs.in_bounds_after.Tie as tie
 
 column-within-after-requires : tie.Need-column-within-after-requires
-column-within-after-requires c κs = (omega arith, omega arith, payable (c .before .before .before .before .pre) _ (omega arith))
+column-within-after-requires c κs = (omega arith, payable (c .before .before .before .before .pre) _ (omega arith))
 
 column-within-after-requires-2 : tie.Need-column-within-after-requires-2
-column-within-after-requires-2 c κs = (omega arith, omega arith, payable (c .before .before .before .before .before .before .pre) _ (omega arith))
+column-within-after-requires-2 c κs = (omega arith, payable (c .before .before .before .before .before .before .pre) _ (omega arith))
 
 pub in-bounds-after-spec : {M : Type 1} → statement M
 in-bounds-after-spec =

@@ -7,8 +7,8 @@ use native.Mathlib.Nat.{le-of-eq}
 use native.Mathlib.Omega.{arith}
 use borrow.Author.Needs.{needs}
 use Rattle.lists.specs.Lists.{sum}
-use Rattle.lists.proofs.Sums.{take-le-sum}
-use Rattle.modulation.proofs.Profile.{sum-split, sum-next}
+use Rattle.lists.proofs.Sums.{take-le-sum, sum-split}
+use Rattle.modulation.proofs.Profile.{sum-next}
 use Rattle.modulation.specs.Totals.{modulationOf}
 use Rattle.modulation.proofs.modulation_at.Statement.{statement}
 use Rattle.modulation.proofs.modulation_at.Tie as tie

@@ -44,7 +44,8 @@ use denote.Triple.Table.{entered, cited}
 use denote.Triple.Walked.{says, needs, Stays, stay-none, stay-none-slice, stay-slice, walkOf, goes-none, goes-none-slice, goes-slice, Walks, ends-at, walked, walk-meets}
 use denote.Exit.{yes}
 use Rattle.hour.specs.declared.Plant.{Plant}
-use Rattle.records.specs.Records.{none, putRow, putRows}
+use Rattle.hour.specs.Table.{none}
+use Rattle.records.specs.Records.{putRow, putRows}
 use Rattle.hour.proofs.Plant as T
 use Rattle.hour.proofs.Plant.Laws as T′
 use Rattle.records.proofs.LentAgain.{LentAgain, lends-again, comes-back}

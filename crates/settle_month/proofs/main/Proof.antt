@@ -1,11 +1,13 @@
 -- `main` meets its contract. Assumes nothing.
 use native.Mathlib.Omega.{arith}
 use borrow.Author.Needs.{needs}
+use Rattle.statement.specs.Statement.{roomFor}
 use Rattle.settle_month.proofs.Parts.{settled-fits, settled-front}
 use Rattle.settle_month.proofs.main.Statement.{statement}
 use Rattle.settle_month.proofs.main.Tie as tie
 
 pub main-spec : {M : Type 1} → statement M
+unfolding roomFor
 main-spec =
     tie.close
     (tie.spec

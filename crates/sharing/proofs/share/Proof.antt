@@ -1,26 +1,23 @@
 -- `sharing::share` meets its contract: at each return the questions of the definition are those that the code put. Assumes nothing.
-use mathlib.Core.Path.{_≡_, refl, ap, _∙_}
-use mathlib.Core.Bool.{Bool, true, false, _||_}
-use mathlib.Core.List.{List, _++_, append-nil}
+use mathlib.Core.Path.{_≡_, refl, sym, ap}
+use mathlib.Core.Bool.{true, _||_, or-true}
+use mathlib.Core.List.{List, _++_}
 use mathlib.Core.Logic.{_⊎_, inl, inr, ⊎-elim}
 use Prim.Native.Nat.{ℕ, _^_, _<_, _≤_}
 use native.Mathlib.Omega.{arith}
+use native.Mathlib.Nat.{le-of-eq}
 use lib.Dec.{eqb, ltb}
 use lib.ListN.{length, drop}
-use lib.Seq.{drop-length}
 use borrow.Author.Needs.{needs}
 use borrow.Author.Tests.{eq-eqb, ne-eqb, lt-ltb, le-ltb}
 use Rattle.lists.specs.Lists.{sum}
 use Rattle.lists.specs.Questions.{firstNo}
+use Rattle.lists.proofs.Parts.{whole-written}
 use Rattle.lists.proofs.Questions.{refuses, accepts}
 use Rattle.sharing.specs.Sharing.{share}
 use Rattle.sharing.specs.Calls.{Shared, sharingNumber, sharingCall}
 use Rattle.sharing.proofs.share.Statement.{statement}
 use Rattle.sharing.proofs.share.Tie as tie
-
-or-true : (b : Bool) → (b || true) ≡ true
-or-true true = refl
-or-true false = refl
 
 module _ (t : ℕ) (ws lent : List ℕ) where
   abbrev Answered : ℕ → List ℕ → Type 0
@@ -55,7 +52,7 @@ module _ (t : ℕ) (ws lent : List ℕ) where
       let either : (eqb t 0 || ltb 0 (sum ws)) ≡ true
       = ⊎-elim (λ z. simp (eq-eqb t 0 z)) (λ p. simp (lt-ltb 0 (sum ws) p) (or-true (eqb t 0))) some in
       accepts 0 _ _ _ _ (simp (eq-eqb _ _ same, lt-ltb _ _ small, lt-ltb _ _ below, either)) refl
-      (ap (λ l. record { number = 0; parts = l }) (e ∙ rw (same, drop-length, append-nil)))
+      (ap (λ l. record { number = 0; parts = l }) (whole-written _ _ lent e (le-of-eq (sym same))))
 
 returns : tie.Need-returns
 returns c = uneven _ _ _ (c .if1 .taken)

@@ -6,7 +6,7 @@ use Prim.Native.Nat.{_+_, _-_, _*_, _/_, _≤_}
 use native.Mathlib.Omega.{arith}
 use lib.ListN.{length, drop, getD}
 use Rattle.lists.specs.Lists.{sum}
-use Rattle.lists.proofs.Loops.{loops, Adding, adding, adding-le, adding-more, Filling, filling, filling-more, filled, rest-more, rest-none}
+use Rattle.lists.proofs.Loops.{loops, Adding, adding, adding-le, adding-next, Filling, filling, filling-more, filled, drop-more, rest-more, rest-none}
 use Rattle.sharing.specs.Sharing.{parts, share}
 use Rattle.sharing.proofs.Sharing.{up-to-zero, up-to-mono, parts-cons, parts-nil}
 use Rattle.sharing.proofs.share_into.Statement.{statement}
@@ -14,7 +14,7 @@ use Rattle.sharing.proofs.share_into.Tie as tie
 
 abbrev Inv-loop : tie.InvT-loop
 Inv-loop t w weights list₀ c₀ before₀ i₀ list c before i =
-    (before ≡ t * c / w) × Adding weights i c
+    (before ≡ t * c / w) × Adding weights (drop i weights) c
     × Filling (length weights) i list₀ (parts t w 0 weights ++ drop (length weights) list₀) list (parts t w c (drop i weights))
 
 abbrev μ-loop : tie.MeasureT-loop
@@ -23,7 +23,7 @@ abbrev μ-loop : tie.MeasureT-loop
 -- what a turn knows: the running total with one weight more stays within the sum
 more : (c : tie.In-loop Inv-loop μ-loop)
     → let ws = c .before .before .before .before .args .weights .now in c .before .loop .c + getD ws (c .before .loop .i) 0 ≤ sum ws
-more c = adding-le (c .before .loop .inv .1) (c .loop-test .taken)
+more c = adding-le (c .before .loop .inv .1) (drop-more _ _ 0 (c .loop-test .taken))
 
 loop-holds : tie.Need-loop-holds Inv-loop μ-loop
 loop-holds c = (sym (up-to-zero _ _), adding, filling (c .before .before .pre .1))
@@ -39,7 +39,7 @@ loop-again c =
     let inv = c .before .before .before .loop .inv in
     let below = c .before .before .loop-test .taken in (
       c .mul-div .ensures,
-      adding-more (inv .1) below refl,
+      adding-next (inv .1) below refl,
       filling-more (inv .2) below (rest-more (parts _ _ _) _ _ 0 below ∙ parts-cons _ _ _ _ _) (rw (c .mul-div .ensures, inv .0)),
     )
 

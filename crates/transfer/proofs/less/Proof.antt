@@ -1,5 +1,6 @@
 -- `transfer::less` meets its contract. Assumes nothing.
-use Rattle.transfer.proofs.Served.{four-⊖}
+use Prim.Native.Nat.{_-_}
+use Rattle.transfer.proofs.Served.{four-rowwise}
 use native.Mathlib.Omega.{arith}
 use borrow.Author.Needs.{needs}
 use Rattle.transfer.proofs.less.Statement.{statement}
@@ -18,7 +19,7 @@ sub-t32 : tie.Need-sub-t32
 sub-t32 c = omega (arith, c .pre 3)
 
 returns : tie.Need-returns
-returns c = four-⊖ _ _ (c .good .0 .1 .0 .1) (c .good .1 .0 .1 .0 .1)
+returns c = four-rowwise _-_ _ _ (c .good .0 .1 .0 .1) (c .good .1 .0 .1 .0 .1)
 
 pub less-spec : {M : Type 1} → statement M
 less-spec =

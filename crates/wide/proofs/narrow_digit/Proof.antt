@@ -1,10 +1,8 @@
 -- `wide::narrow_digit` meets its contract: by the law of one step, whose number has room in 64 bits. Assumes nothing.
-use mathlib.Core.Path.{sym}
 use Prim.Native.Nat.{_+_, _*_, _%_, _^_, _<_}
-use native.Mathlib.Nat.{zero-mul, zero-div, zero-mod}
 use native.Mathlib.Omega.{arith}
 use borrow.Author.Needs.{needs}
-use Rattle.wide.proofs.Step.{Step, step}
+use Rattle.wide.proofs.Step.{Step, step, nothing}
 use Rattle.wide.proofs.narrow_digit.Statement.{statement}
 use Rattle.wide.proofs.narrow_digit.Tie as tie
 
@@ -15,7 +13,7 @@ known c =
     step (a .t) (a .c) (a .w) (2 ^ 22) (a .high .quot) (a .high .rest) (c .fits .t .fits) (p .0 .0) (p .0 .1) (omega arith) (p .1 .0) (p .1 .1)
 
 returns : tie.Need-returns
-returns c = rw (c .if1 .taken, zero-mul) (sym (zero-div _), sym (zero-mod _))
+returns c = nothing _ _ _ (c .if1 .taken)
 
 room : (c : tie.Start) → let a = c .args in a .high .rest * 2 ^ 22 + a .t % 2 ^ 22 * a .c < 2 ^ 64
 room c = let k = known c .sum in omega (arith, c .pre .0 .2)

@@ -1,11 +1,11 @@
 -- `wide::wide_digit` meets its contract: by the law of one step. Assumes nothing.
-use mathlib.Core.Path.{_≡_, sym, _∙_}
+use mathlib.Core.Path.{_≡_, _∙_}
 use Prim.Native.Nat.{ℕ, _+_, _*_, _/_, _%_, _^_, _≤_, _<_}
-use native.Mathlib.Nat.{zero-mul, zero-div, zero-mod, mod-lt, mul-le-mul-right, le-div-iff-mul-le}
+use native.Mathlib.Nat.{mod-lt, mul-le-mul-right, le-div-iff-mul-le}
 use native.Mathlib.Omega.{arith}
 use lib.Pow.{pow-pos, pow-mono}
 use Rattle.wide.specs.Head.{Headed}
-use Rattle.wide.proofs.Step.{Step, step}
+use Rattle.wide.proofs.Step.{Step, step, nothing}
 use Rattle.wide.proofs.Guess.{few}
 use Rattle.wide.proofs.wide_digit.Statement.{statement}
 use Rattle.wide.proofs.wide_digit.Tie as tie
@@ -18,7 +18,7 @@ known c =
     step (a .t) (a .c) (a .w) (2 ^ 31) (a .high .quot) (a .high .rest) (c .fits .t .fits) (p .0 .0) (omega (arith, pow-pos (a .cut))) (omega arith) (p .1 .0) (p .1 .1)
 
 returns : tie.Need-returns
-returns c = rw (c .if1 .taken, zero-mul) (sym (zero-div _), sym (zero-mod _))
+returns c = nothing _ _ _ (c .if1 .taken)
 
 -- a digit times 2 ^ cut, and the number that the step divides, have room
 digit-room : (d cut : ℕ) → cut ≤ 30 → d < 2 ^ 31 → d * 2 ^ cut < 2 ^ 64

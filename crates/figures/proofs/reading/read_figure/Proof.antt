@@ -1,6 +1,7 @@
 -- `reading::read_figure` meets its contract. Assumes nothing.
 use borrow.Author.Needs.{needs}
-use Rattle.figures.proofs.Digits.{figure-none, figure-long, figure-leading, figure-digits}
+use Rattle.lists.proofs.Questions.{refused, granted, limits}
+use Rattle.figures.proofs.Digits.{figure-unsized, figure-leading, figure-digits}
 use Rattle.figures.proofs.reading.read_figure.Statement.{statement}
 use Rattle.figures.proofs.reading.read_figure.Tie as tie
 
@@ -8,12 +9,11 @@ pub read-figure-spec : {M : Type 1} → statement M
 read-figure-spec =
     tie.close
     (tie.spec
+    (λ c κs. search needs)  -- in-range-requires
     (λ c κs. search needs)  -- no-figure-requires
-    (λ c. search figure-none)  -- returns
-    (λ c κs. search needs)  -- no-figure-requires-2
-    (λ c. search figure-long)  -- returns-2
+    (λ c. search (figure-unsized, refused))  -- returns
     (λ c κs. search needs)  -- has-leading-zero-requires
-    (λ c κs. search needs)  -- no-figure-requires-3
-    (λ c. search (figure-leading, needs))  -- returns-3
-    (λ c κs. search needs)  -- read-digits-requires
-    (λ c. search (figure-digits, needs)))  -- returns-4
+    (λ c κs. search needs)  -- no-figure-requires-2
+    (λ c. search (figure-leading, granted, needs))  -- returns-2
+    (λ c κs. limits 1 19 _ (granted _ _ (c .before .before .before .in-range .ensures) (c .before .before .if1 .left)) .1)  -- read-digits-requires
+    (λ c. search (figure-digits, granted, needs)))  -- returns-3

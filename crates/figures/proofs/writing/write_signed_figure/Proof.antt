@@ -8,7 +8,8 @@ use lib.ListN.{length-set}
 use lib.Signed.{ltZ}
 use mir.Facts.{toZ-ofZ}
 use Rattle.figures.specs.Figures.{figureLength}
-use Rattle.figures.proofs.Signs.{tested, length-below, length-above, wrote-below, wrote-above}
+use Rattle.signed.proofs.Machine.{tested}
+use Rattle.figures.proofs.Signs.{length-below, length-above, wrote-below, wrote-above}
 use Rattle.figures.proofs.writing.write_signed_figure.Statement.{statement}
 use Rattle.figures.proofs.writing.write_signed_figure.Tie as tie
 

@@ -4,12 +4,13 @@ use Prim.Native.Nat.{_*_}
 use native.Mathlib.Omega.{arith}
 use borrow.Author.Needs.{needs}
 use lib.ListN.{length, take}
+use Rattle.lists.proofs.Parts.{front-count}
 use Rattle.records.specs.Records.{rowsOf}
+use Rattle.month.specs.Calls as month
 use Rattle.month.specs.Calls.{OpenEnd, openCall}
 use Rattle.file_lines.specs.declared.MonthFile.{MonthFile}
-use Rattle.file_lines.specs.File as file
 use Rattle.file_lines.specs.State.{Kept, kept, ledgerOf}
-use Rattle.file_lines.proofs.Opened.{front-count, opening-called}
+use Rattle.file_lines.proofs.Opened.{opening-called}
 use Rattle.file_lines.proofs.opening.open_month.Statement.{statement}
 use Rattle.file_lines.proofs.opening.open_month.Tie as tie
 
@@ -28,7 +29,7 @@ lists c =
 answers : (c : tie.After-open-columns)
     → _≡_ {A = OpenEnd}
     (record { answer = c .open-columns .result; ledger = record { allotted = c .open-columns .last .1 .1 .1 .1 .1 .0; accounts = c .open-columns .last .1 .1 .1 .1 .1 .1 .0 } })
-    (openCall file.blank (rowsOf (state c .plants) (lists c .columns)) (take (state c .periods) (lists c .profile)) (state c .tariff) (ledgerOf (state c .plants) (lists c)))
+    (openCall month.blank (rowsOf (state c .plants) (lists c .columns)) (take (state c .periods) (lists c .profile)) (state c .tariff) (ledgerOf (state c .plants) (lists c)))
 unfolding ledgerOf
 answers c = rw (sym (c .before .before .before .before .blank .ensures)) (c .open-columns .ensures)
 

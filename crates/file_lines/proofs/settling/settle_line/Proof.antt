@@ -6,11 +6,11 @@ use native.Mathlib.Omega.{arith}
 use borrow.Author.Needs.{needs}
 use lib.ListN.{length, take, replicate, length-replicate}
 use lib.Seq.{length-take-le}
+use Rattle.lists.proofs.Parts.{front-count}
 use Rattle.records.specs.Records.{rowsOf}
 use Rattle.month.specs.Calls.{SettleEnd, settleCall}
 use Rattle.file_lines.specs.declared.MonthFile.{MonthFile}
 use Rattle.file_lines.specs.State.{Kept, kept, ledgerOf, Counted}
-use Rattle.file_lines.proofs.Opened.{front-count}
 use Rattle.file_lines.proofs.Settled.{settling-called}
 use Rattle.file_lines.proofs.settling.settle_line.Statement.{statement}
 use Rattle.file_lines.proofs.settling.settle_line.Tie as tie

@@ -6,8 +6,8 @@ use native.Mathlib.Omega.{arith}
 use borrow.Author.Needs.{needs}
 use borrow.Author.Tests.{not-true, not-false}
 use lib.ListN.{length, replicate, length-replicate}
+use Rattle.lists.proofs.Parts.{front-count}
 use Rattle.file_lines.specs.State.{Kept, kept}
-use Rattle.file_lines.proofs.Opened.{front-count}
 use Rattle.file_lines.proofs.Taken.{few-lines, profile-count, reading-refused, room, out-of-turn, figures-in-turn, line-taken}
 use Rattle.file_lines.proofs.taking.take_line.Statement.{statement}
 use Rattle.file_lines.proofs.taking.take_line.Tie as tie

@@ -2,12 +2,10 @@
 use borrow.Author.Needs.{needs}
 use Rattle.lists.proofs.Questions.{tests}
 use Rattle.lines.proofs.Starts.{cases}
-use Rattle.file_lines.specs.State.{gatherTurn}
 use Rattle.file_lines.proofs.turns.gather_turn.Statement.{statement}
 use Rattle.file_lines.proofs.turns.gather_turn.Tie as tie
 
 pub gather-turn-spec : {M : Type 1} → statement M
-unfolding gatherTurn
 gather-turn-spec =
     tie.close
     (tie.spec

@@ -1,15 +1,14 @@
 -- `Month::balance` meets its contract: refused, zeros beside the number; accepted, the sums of a ledger that question 19 found in bounds. Assumes nothing.
-use mathlib.Core.Path.{_≡_, _∙_}
+use mathlib.Core.Path.{_≡_}
 use mathlib.Core.List.{List}
 use Prim.Native.Nat.{ℕ}
 use native.Mathlib.Omega.{arith}
 use lib.IntN.{ℤ}
-use mir.Facts.{toZ-ofZ}
-use mir.Syntax.{w64}
 use borrow.Author.Needs.{needs}
 use Rattle.lists.specs.Lists.{sum, sumℤ}
 use Rattle.lists.specs.Columns.{four}
 use Rattle.lists.proofs.Questions.{outcomes, accepts}
+use Rattle.signed.proofs.Machine.{result-is}
 use Rattle.ledger.specs.Ledger.{Ledger, allottedIn, netColumn, moneyColumn}
 use Rattle.month.specs.declared.Month.{Month}
 use Rattle.month.specs.declared.Balanced.{Balanced}
@@ -44,8 +43,8 @@ sums m l k e z columns net money p q r = accepts k _ _ _ _ e z (cc)
 returns-2 : tie.Need-returns-2
 returns-2 c =
     let asked = c .before .before .before in
-    sums _ _ _ (asked .before .balance-number .ensures) (asked .if1 .left) _ _ _ (c .before .before .column-sums .ensures) (toZ-ofZ {w = w64} (record { sfits = c .before .net-sum .ok }) ∙ c .before .net-sum .ensures)
-    (toZ-ofZ {w = w64} (record { sfits = c .money-sum .ok }) ∙ c .money-sum .ensures)
+    sums _ _ _ (asked .before .balance-number .ensures) (asked .if1 .left) _ _ _ (c .before .before .column-sums .ensures) (result-is (c .before .net-sum .result) (c .before .net-sum .ok) (c .before .net-sum .ensures))
+    (result-is (c .money-sum .result) (c .money-sum .ok) (c .money-sum .ensures))
 
 pub balance-spec : {M : Type 1} → statement M
 unfolding balanceCall

@@ -41,14 +41,14 @@ use denote.Exit.{yes}
 use denote.Builtin.{u64, usize, i64}
 use Rattle.hour.specs.declared.Plant.{Plant}
 use Rattle.month.specs.declared.Month.{Month}
-use Rattle.month.specs.declared.Opened.{Opened}
+use Rattle.month.specs.declared.Ended.{Ended}
 use Rattle.records.specs.Records.{Held}
 use Rattle.month.specs.Calls.{OpenEnd, openCall}
 use Rattle.hour.proofs.Plant as Plant-T
 use Rattle.month.proofs.Month as Month-T
 use Rattle.month.proofs.Month.Laws as Month-L
-use Rattle.month.proofs.Opened as Opened-T
-use Rattle.month.proofs.Opened.Laws as Opened-L
+use Rattle.month.proofs.Ended as Ended-T
+use Rattle.month.proofs.Ended.Laws as Ended-L
 use Rattle.records.proofs.columns as g0
 use Rattle.records.proofs.columns.Symbol as g0-def
 use Rattle.records.proofs.columns.Symbol.{name as #g0}
@@ -122,18 +122,18 @@ module _ {M : Type 1} (𝓤 : URA M) (H : Heap 𝓤) (A : Atoms 𝓤) (W : Given
   Post = walkOf 𝓤 H A f.ended stayed (f.clauses 𝓤 H A mem run) .post bound
 
   -- what the contract says, and what each callee's says
-  abbrev Told : Opened → List ℕ → List ℤ → Type 0
+  abbrev Told : Ended → List ℕ → List ℤ → Type 0
   Told r allotted-last accounts-last = _≡_ {A = OpenEnd} (record { answer = r; ledger = record { allotted = allotted-last; accounts = accounts-last } }) (openCall m (plants .now) (profile .now) tariff (record { allotted = allotted .now; accounts = accounts .now }))
 
   abbrev Said-g0 : List ℕ → Type 0
   Said-g0 c = Held (plants .now) n c
 
-  abbrev Said-g1 : List ℕ → Opened → List ℕ → List ℤ → Type 0
+  abbrev Said-g1 : List ℕ → Ended → List ℕ → List ℤ → Type 0
   Said-g1 c r allotted-last accounts-last = (rows : List Plant) → Held rows n c → _≡_ {A = OpenEnd} (record { answer = r; ledger = record { allotted = allotted-last; accounts = accounts-last } }) (openCall m rows (profile .now) tariff (record { allotted = allotted .now; accounts = accounts .now }))
 
-  exits : (r : Opened) (val-r : Val) (allotted-last : List ℕ) (accounts-last : List ℤ) → length allotted-last ≡ length (allotted .now) → length accounts-last ≡ length (accounts .now) → Told r allotted-last accounts-last → ent 𝓤 (⋆ 𝓤 H A (‵ (flft κ-plants q-plants) ∷ ‵ (flft κ-profile q-profile) ∷ ‵ (flft κ-allotted q-allotted) ∷ ‵ (flft κ-accounts q-accounts) ∷ ‵ Own-m ∷ ‵ Own-plants ∷ ‵ Own-profile ∷ ‵ (finally u64 (allotted .name) allotted-last) ∷ ‵ (finally i64 (accounts .name) accounts-last) ∷ ‵ (Opened-T.the-row .own r (val-r ∷ [])) ∷ [])) (Post val-r)
+  exits : (r : Ended) (val-r : Val) (allotted-last : List ℕ) (accounts-last : List ℤ) → length allotted-last ≡ length (allotted .now) → length accounts-last ≡ length (accounts .now) → Told r allotted-last accounts-last → ent 𝓤 (⋆ 𝓤 H A (‵ (flft κ-plants q-plants) ∷ ‵ (flft κ-profile q-profile) ∷ ‵ (flft κ-allotted q-allotted) ∷ ‵ (flft κ-accounts q-accounts) ∷ ‵ Own-m ∷ ‵ Own-plants ∷ ‵ Own-profile ∷ ‵ (finally u64 (allotted .name) allotted-last) ∷ ‵ (finally i64 (accounts .name) accounts-last) ∷ ‵ (Ended-T.the-row .own r (val-r ∷ [])) ∷ [])) (Post val-r)
   exits r val-r allotted-last accounts-last length-allotted length-accounts e =
-      qed W (‵ (flft κ-plants q-plants) ∷ ‵ (flft κ-profile q-profile) ∷ ‵ (flft κ-allotted q-allotted) ∷ ‵ (flft κ-accounts q-accounts) ∷ ‵ Own-m ∷ ‵ Own-plants ∷ ‵ Own-profile ∷ ‵ (finally u64 (allotted .name) allotted-last) ∷ ‵ (finally i64 (accounts .name) accounts-last) ∷ ‵ (Opened-T.the-row .own r (val-r ∷ [])) ∷ []) ∵ suffices ! _ (ends-at 𝓤 H A f.ended stayed (f.clauses 𝓤 H A mem run) W bound val-r r (tt, (tt, (tt, (tt, (allotted-last, (accounts-last, tt)))))) (tt, (tt, (tt, (tt, (length-allotted, (length-accounts, tt))))))) $ says ! e $ owned ! u64 (Is u64) (uint-makes 𝓤 H A W w64) tariff _ (refl, fits-tariff) $ nothing ! $ move ! (5 ∷ 0 ∷ []) $ join ! $ move ! (4 ∷ 0 ∷ []) $ join ! $ move ! (3 ∷ 0 ∷ []) $ join ! $ move ! (2 ∷ 0 ∷ []) $ join ! $ frame ! $ nothing ! $ move ! (6 ∷ 0 ∷ []) $ fjoin ! $ move ! (5 ∷ 0 ∷ []) $ fjoin ! $ move ! (1 ∷ 0 ∷ []) $ fjoin ! $ move ! (3 ∷ 0 ∷ []) $ fjoin ! $ move ! (2 ∷ 0 ∷ []) $ fjoin ! $ move ! (1 ∷ 0 ∷ []) $ fjoin ! $ frame ! $ done !
+      qed W (‵ (flft κ-plants q-plants) ∷ ‵ (flft κ-profile q-profile) ∷ ‵ (flft κ-allotted q-allotted) ∷ ‵ (flft κ-accounts q-accounts) ∷ ‵ Own-m ∷ ‵ Own-plants ∷ ‵ Own-profile ∷ ‵ (finally u64 (allotted .name) allotted-last) ∷ ‵ (finally i64 (accounts .name) accounts-last) ∷ ‵ (Ended-T.the-row .own r (val-r ∷ [])) ∷ []) ∵ suffices ! _ (ends-at 𝓤 H A f.ended stayed (f.clauses 𝓤 H A mem run) W bound val-r r (tt, (tt, (tt, (tt, (allotted-last, (accounts-last, tt)))))) (tt, (tt, (tt, (tt, (length-allotted, (length-accounts, tt))))))) $ says ! e $ owned ! u64 (Is u64) (uint-makes 𝓤 H A W w64) tariff _ (refl, fits-tariff) $ nothing ! $ move ! (5 ∷ 0 ∷ []) $ join ! $ move ! (4 ∷ 0 ∷ []) $ join ! $ move ! (3 ∷ 0 ∷ []) $ join ! $ move ! (2 ∷ 0 ∷ []) $ join ! $ frame ! $ nothing ! $ move ! (6 ∷ 0 ∷ []) $ fjoin ! $ move ! (5 ∷ 0 ∷ []) $ fjoin ! $ move ! (1 ∷ 0 ∷ []) $ fjoin ! $ move ! (3 ∷ 0 ∷ []) $ fjoin ! $ move ! (2 ∷ 0 ∷ []) $ fjoin ! $ move ! (1 ∷ 0 ∷ []) $ fjoin ! $ frame ! $ done !
 
   -- the call of `records::columns`
   abbrev given-g0 : (RefT (List Plant) × Unit {0})
@@ -176,7 +176,7 @@ module _ {M : Type 1} (𝓤 : URA M) (H : Heap 𝓤) (A : Atoms 𝓤) (W : Given
         assigns ! (addr ! (from ! (fld ! refl (hop ! (look-in ! 23 (sub ! 0 refl (whole !))) (stop !))))) (from ! (stop !)) (init ! 13 refl (tt, tt)) $ assigns ! (agg ! (and-then ! (load ! (from ! (stop !)) (look ! 13 refl)) (and-then ! (load ! (from ! (fld ! refl (stop !))) (look-in ! 23 (sub ! 1 refl (whole !)))) (no-more !)))) (from ! (stop !)) (init ! 11 refl (tt, (tt, (record { fits = room-accounts .0 }, tt)))) $
         move ! (10 ∷ []) $ use1 W (‵ Own-m ⊛ ‵ Own-m) (LL.copy Month-T.the-type Month-L.the-copy 𝓤 H A W .twice m (val-m ∷ [])) $ split ! $ move ! (11 ∷ []) $ use1 W (‵ Own-profile ⊛ ‵ Own-profile) (shr-slice-copy 𝓤 H A W (named 1) κ-profile u64 .twice profile (val-profile ∷ [])) $ split ! $ move ! (11 ∷ 10 ∷ []) $ join ! $ move ! (2 ∷ 0 ∷ []) $ join ! $ move ! (4 ∷ 0 ∷ []) $ join ! $ move ! (3 ∷ 0 ∷ []) $ join ! $ move ! (5 ∷ 0 ∷ []) $ join ! $ move ! (5 ∷ 0 ∷ []) $ join ! $ move ! (5 ∷ 0 ∷ []) $ join ! $ use1 W (raw (Contract-g1 𝓤 H A mem run .pre (to-g1 c val-c))) (goes-g1 c val-c) $
         calls-at ! fm (Contract-g1 𝓤 H A mem run) known-g1 (to-g1 c val-c) (and-then ! (load ! (from ! (stop !)) (look ! 28 refl)) (and-then ! (load ! (from ! (stop !)) (look ! 16 refl)) (and-then ! (load ! (from ! (stop !)) (look ! 14 refl)) (and-then ! (load ! (from ! (stop !)) (look ! 24 refl)) (and-then ! (load ! (from ! (stop !)) (look ! 22 refl)) (and-then ! (load ! (from ! (stop !)) (look ! 10 refl)) (and-then ! (load ! (from ! (stop !)) (look ! 6 refl)) (no-more !)))))))) (λ val-r.
-        use1 W (later (some (λ (r : Opened). ((‵ (flft κ-profile q-profile) ⊛ (‵ (flft κ-allotted q-allotted) ⊛ (‵ (flft κ-accounts q-accounts) ⊛ ‵ ftrue))) ⊛ ‵ (Opened-T.the-row .own r (val-r ∷ []))) ⊛ raw (ensured 𝓤 H A g1.ended (g1.clauses 𝓤 H A mem run) (κ-profile, (κ-allotted, (κ-accounts, tt))) (given-g1 c) tt r)))) (id⊢ 𝓤 _) $ await ! tt $ pick ! (λ r.
+        use1 W (later (some (λ (r : Ended). ((‵ (flft κ-profile q-profile) ⊛ (‵ (flft κ-allotted q-allotted) ⊛ (‵ (flft κ-accounts q-accounts) ⊛ ‵ ftrue))) ⊛ ‵ (Ended-T.the-row .own r (val-r ∷ []))) ⊛ raw (ensured 𝓤 H A g1.ended (g1.clauses 𝓤 H A mem run) (κ-profile, (κ-allotted, (κ-accounts, tt))) (given-g1 c) tt r)))) (id⊢ 𝓤 _) $ await ! tt $ pick ! (λ r.
         split ! $ move ! (1 ∷ []) $ use1 W (some (λ (ws-g1 : (Unit {0} × (Unit {0} × (Unit {0} × (Unit {0} × (Unit {0} × (List ℕ × (List ℤ × Unit {0})))))))). ‵ (lasts g1.ended (κ-profile, (κ-allotted, (κ-accounts, tt))) (given-g1 c) ws-g1) ⊛ raw (fact 𝓤 (Said-g1 c r (ws-g1 .1 .1 .1 .1 .1 .0) (ws-g1 .1 .1 .1 .1 .1 .1 .0))))) (id⊢ 𝓤 _) $ pick ! (λ ws-g1.
         split ! $ move ! (1 ∷ []) $ heard ! (Said-g1 c r (ws-g1 .1 .1 .1 .1 .1 .0) (ws-g1 .1 .1 .1 .1 .1 .1 .0)) (λ is-r.
         fsplit ! $ drop ! $ fsplit ! $ drop ! $ fsplit ! $ drop ! $ fsplit ! $ drop ! $ fsplit ! $ drop ! $ fsplit ! $ fsplit ! $ move ! (1 ∷ []) $
@@ -184,7 +184,7 @@ module _ {M : Type 1} (𝓤 : URA M) (H : Heap 𝓤) (A : Atoms 𝓤) (W : Given
         move ! (1 ∷ []) $ fsplit ! $ fsplit ! $ move ! (1 ∷ []) $
         feqL ! (λ length-accounts.
         move ! (1 ∷ []) $ drop ! $ move ! (2 ∷ []) $ split ! $ split ! $ move ! (1 ∷ []) $ split ! $ move ! (1 ∷ []) $ split ! $ move ! (1 ∷ []) $ drop ! $ move ! (3 ∷ []) $
-        peeks ! Opened-T.the-row (Is Opened-T.the-row) (shows 𝓤 H A Opened-T.the-row) r (val-r ∷ []) (λ is-own-r. land ! (from ! (stop !)) (init ! 35 refl (LL.lawful Opened-T.the-type Opened-L.the-laws 𝓤 H A W .typed r (val-r ∷ []) is-own-r .0)) $
+        peeks ! Ended-T.the-row (Is Ended-T.the-row) (shows 𝓤 H A Ended-T.the-row) r (val-r ∷ []) (λ is-own-r. land ! (from ! (stop !)) (init ! 35 refl (LL.lawful Ended-T.the-type Ended-L.the-laws 𝓤 H A W .typed r (val-r ∷ []) is-own-r .0)) $
         returns ! (look ! 35 refl) $ forget ! 35 refl $ forget ! 33 refl $ forget ! 31 refl $ forget ! 29 refl $ forget ! 27 refl $ forget ! 25 refl $ forget ! 23 refl $ forget ! 21 refl $ forget ! 19 refl $ forget ! 17 refl $ forget ! 15 refl $ forget ! 13 refl $ forget ! 11 refl $ move ! (35 ∷ 36 ∷ []) $ free1 ! $ move ! (33 ∷ 34 ∷ []) $ free1 ! $ move ! (31 ∷ 32 ∷ []) $ free1 ! $ move ! (29 ∷ 30 ∷ []) $ free1 ! $ move ! (27 ∷ 28 ∷ []) $ free1 ! $ move ! (25 ∷ 26 ∷ []) $ free1 ! $ move ! (23 ∷ 24 ∷ []) $ free1 ! $ move ! (21 ∷ 22 ∷ []) $ free1 ! $ move ! (19 ∷ 20 ∷ []) $ free1 ! $ move ! (17 ∷ 18 ∷ []) $ free1 ! $ move ! (15 ∷ 16 ∷ []) $ free1 ! $ move ! (13 ∷ 14 ∷ []) $ free1 ! $ move ! (11 ∷ 12 ∷ []) $ free1 ! $ free0 ! $ keep ! (8 ∷ 3 ∷ 2 ∷ 1 ∷ 7 ∷ 9 ∷ 6 ∷ 5 ∷ 4 ∷ 0 ∷ []) $
         by ! (exits r val-r (ws-g1 .1 .1 .1 .1 .1 .0) (ws-g1 .1 .1 .1 .1 .1 .1 .0) length-allotted length-accounts (is-r (plants .now) is-c)))))))))))))))))))))))))))
 

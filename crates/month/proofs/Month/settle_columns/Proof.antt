@@ -5,6 +5,7 @@ use lib.IntN.{pos}
 use lib.ListN.{length, replicate}
 use lib.Seq.{length-take-le}
 use borrow.Author.Needs.{needs}
+use Rattle.lists.proofs.Parts.{front-count}
 use Rattle.month.proofs.Workable.{roomy}
 use Rattle.month.proofs.Ends.{refused-inputs}
 use Rattle.month.proofs.Month.settle_columns.Statement.{statement}
@@ -21,13 +22,13 @@ array-borrow-prefix-figures : tie.Need-array-borrow-prefix-figures
 array-borrow-prefix-figures c = room c .0
 
 slice-aggregate-settle-hour : tie.Need-slice-aggregate-settle-hour
-slice-aggregate-settle-hour c = sym (length-take-le (length (c .before .before .before .before .before .before .before .before .before .before .args .allotment .now)) (replicate 2048 0) (room (c .before) .0))
+slice-aggregate-settle-hour c = front-count _ (replicate 2048 0) (room (c .before) .0)
 
 array-borrow-prefix-nets : tie.Need-array-borrow-prefix-nets
 array-borrow-prefix-nets c = room (c .before) .1
 
 slice-aggregate-settle-hour-2 : tie.Need-slice-aggregate-settle-hour-2
-slice-aggregate-settle-hour-2 c = sym (length-take-le (c .before .before .before .before .before .before .before .before .before .before .before .args .n) (replicate 512 (pos 0)) (room (c .before .before) .1))
+slice-aggregate-settle-hour-2 c = front-count _ (replicate 512 (pos 0)) (room (c .before .before) .1)
 
 settle-hour-requires : tie.Need-settle-hour-requires
 settle-hour-requires c κs =

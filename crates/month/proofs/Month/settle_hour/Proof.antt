@@ -34,7 +34,7 @@ unfolding start
 post-requires c κs =
     let asked = c .before .before .before .before .before .before .before .before .before in
     let worked = c .before .before .before .before .before .before .before .before .before .before .before .before .before .before .before .before .before .before in
-    postable (start worked .pre) (worked .work-columns .ensures) (bounds _ _ _ (asked .before .bounds-number .ensures) (asked .if1 .left))
+    postable (start worked .pre) (worked .work-columns .ensures) (bounds _ _ _ (asked .before .bounds-number .ensures) (asked .if1 .left) .0)
 
 settled-requires : tie.Need-settled-requires
 unfolding start

@@ -14,8 +14,5 @@ balance-number-spec =
     (λ c. search asks depth 9)
     (λ c κs. search needs)  -- plants-in-limits-requires
     (λ c. search asks depth 9)
-    (λ c κs. let asked = limits 1 512 _ (granted _ _ (c .before .plants-in-limits .ensures) (c .if2 .left)) in search needs)  -- lengths-number-requires
-    (λ c. search asks depth 9)
-    (λ c κs. search needs)  -- in-bounds-requires
-    (λ c. search asks depth 9)
+    (λ c κs. let asked = limits 1 512 _ (granted _ _ (c .before .plants-in-limits .ensures) (c .if2 .left)) in search needs)  -- ledger-number-requires
     (λ c. search asks depth 9))

@@ -3,7 +3,7 @@ use borrow.Author.Needs.{needs}
 use native.Mathlib.Omega.{arith}
 use Rattle.lists.proofs.Questions.{asks}
 use Rattle.records.proofs.Figures.{length-rows}
-use Rattle.month.specs.Steps.{inputsNumber}
+use Rattle.month.specs.Questions.{inputsNumber}
 use Rattle.month.proofs.Asked.{own}
 use Rattle.month.proofs.settle.inputs_number.Statement.{statement}
 use Rattle.month.proofs.settle.inputs_number.Tie as tie

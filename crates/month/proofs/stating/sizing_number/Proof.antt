@@ -13,8 +13,8 @@ rows-number-requires c κs =
     let d = due _ _ _ (c .before .due-number .ensures) (c .if1 .left) in
     (omega (arith, d .plants, d .lent), search needs)
 
-lengths-number-requires : tie.Need-lengths-number-requires
-lengths-number-requires c κs =
+ledger-number-requires : tie.Need-ledger-number-requires
+ledger-number-requires c κs =
     let d = due _ _ _ (c .before .before .before .due-number .ensures) (c .before .before .if1 .left) in
     d .plants
 
@@ -27,8 +27,5 @@ sizing-number-spec =
     (λ c. simp length-rows (search asks depth 9))
     rows-number-requires
     (λ c. simp length-rows (search asks depth 9))
-    lengths-number-requires
-    (λ c. simp length-rows (search asks depth 9))
-    (λ c κs. search needs)  -- in-bounds-requires
-    (λ c. simp length-rows (search asks depth 9))
+    ledger-number-requires
     (λ c. simp length-rows (search asks depth 9)))

@@ -3,8 +3,8 @@ use mathlib.Core.Path.{refl}
 use Prim.Native.Nat.{_-_}
 use native.Mathlib.Omega.{arith}
 use lib.ListN.{length}
+use Rattle.lists.proofs.Parts.{front-count}
 use Rattle.file_lines.specs.State.{kept}
-use Rattle.file_lines.proofs.Opened.{front-count}
 use Rattle.file_lines.proofs.Taken.{few-lines}
 use Rattle.month_file.proofs.Parts.{Feeding, feeding, feeding-on, feeding-line, all-fed}
 use Rattle.month_file.proofs.feeding.feed.Statement.{statement}

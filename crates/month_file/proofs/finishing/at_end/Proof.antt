@@ -1,5 +1,5 @@
 -- `finishing::at_end` meets its contract. Assumes nothing.
-use Rattle.file_lines.proofs.Opened.{front-count}
+use Rattle.lists.proofs.Parts.{front-count}
 use Rattle.month_file.proofs.Ends.{ended-refused, ended-line, ended-early, ended-short, ended-settled}
 use Rattle.month_file.proofs.finishing.at_end.Statement.{statement}
 use Rattle.month_file.proofs.finishing.at_end.Tie as tie

@@ -1,6 +1,7 @@
 -- `finishing::finish` meets its contract. Assumes nothing.
 use native.Mathlib.Omega.{arith}
 use borrow.Author.Needs.{needs}
+use Rattle.statement.specs.Statement.{roomFor}
 use Rattle.file_lines.specs.State.{Kept, kept}
 use Rattle.file_lines.proofs.Taken.{few-lines}
 use Rattle.month_file.proofs.Ends.{finishes-refused, finishes}
@@ -13,6 +14,7 @@ lists s =
     kept (a .columns .now) (a .profile .now) (a .allotted .now) (a .accounts .now)
 
 pub finish-spec : {M : Type 1} → statement M
+unfolding roomFor
 finish-spec =
     tie.close
     (tie.spec

@@ -1,5 +1,5 @@
 -- `recorder::months::iolwarch_open` meets its contract: a walk of its MIR, written by tools/outer.py.
--- All that it knows of `kept_month::month_of`, `month::Month::open`, `kept_month::opened_kept` is that each meets its contract.
+-- All that it knows of `kept_month::month_of`, `month::Month::open`, `kept_month::ended_kept` is that each meets its contract.
 -- Assumes nothing.
 use mathlib.Core.Path.{_≡_, refl}
 use Prim.Native.Nat.{ℕ, _<_, _^_}
@@ -40,17 +40,17 @@ use denote.Exit.{yes}
 use denote.Builtin.{u64, i64}
 use Rattle.hour.specs.declared.Plant.{Plant}
 use Rattle.month.specs.declared.Month.{Month}
-use Rattle.month.specs.declared.Opened.{Opened}
+use Rattle.month.specs.declared.Ended.{Ended}
 use Rattle.kept_month.specs.declared.KeptMonth.{KeptMonth}
 use Rattle.kept_month.specs.declared.KeptEnd.{KeptEnd}
 use Rattle.month.specs.Calls.{OpenEnd, openCall}
-use Rattle.kept_month.specs.Months.{monthOf, openedKept, OpenKeptEnd, openKept}
+use Rattle.kept_month.specs.Months.{monthOf, endedKept, OpenKeptEnd, openKept}
 use Rattle.kept_month.proofs.Kept.{opens}
 use Rattle.hour.proofs.Plant as Plant-T
 use Rattle.month.proofs.Month as Month-T
 use Rattle.month.proofs.Month.Laws as Month-L
-use Rattle.month.proofs.Opened as Opened-T
-use Rattle.month.proofs.Opened.Laws as Opened-L
+use Rattle.month.proofs.Ended as Ended-T
+use Rattle.month.proofs.Ended.Laws as Ended-L
 use Rattle.kept_month.proofs.KeptMonth as KeptMonth-T
 use Rattle.kept_month.proofs.KeptMonth.Laws as KeptMonth-L
 use Rattle.kept_month.proofs.KeptEnd as KeptEnd-T
@@ -63,10 +63,10 @@ use Rattle.month.proofs.Month.«open» as g1
 use Rattle.month.proofs.Month.«open».Symbol as g1-def
 use Rattle.month.proofs.Month.«open».Symbol.{name as #g1}
 use Rattle.month.proofs.Month.«open».Met as g1-thm
-use Rattle.kept_month.proofs.opened_kept as g2
-use Rattle.kept_month.proofs.opened_kept.Symbol as g2-def
-use Rattle.kept_month.proofs.opened_kept.Symbol.{name as #g2}
-use Rattle.kept_month.proofs.opened_kept.Met as g2-thm
+use Rattle.kept_month.proofs.ended_kept as g2
+use Rattle.kept_month.proofs.ended_kept.Symbol as g2-def
+use Rattle.kept_month.proofs.ended_kept.Symbol.{name as #g2}
+use Rattle.kept_month.proofs.ended_kept.Met as g2-thm
 use Rattle.recorder.proofs.months.iolwarch_open.Key.{name as #f}
 use Rattle.recorder.proofs.months.iolwarch_open as f
 use Rattle.recorder.proofs.months.iolwarch_open.Statement as stated
@@ -138,11 +138,11 @@ module _ {M : Type 1} (𝓤 : URA M) (H : Heap 𝓤) (A : Atoms 𝓤) (W : Given
   abbrev Said-g0 : Month → Type 0
   Said-g0 meant = meant ≡ monthOf m
 
-  abbrev Said-g1 : Month → Opened → List ℕ → List ℤ → Type 0
+  abbrev Said-g1 : Month → Ended → List ℕ → List ℤ → Type 0
   Said-g1 meant opened allotted-last accounts-last = _≡_ {A = OpenEnd} (record { answer = opened; ledger = record { allotted = allotted-last; accounts = accounts-last } }) (openCall meant (plants .now) (profile .now) tariff (record { allotted = allotted .now; accounts = accounts .now }))
 
-  abbrev Said-g2 : Month → Opened → KeptEnd → Type 0
-  Said-g2 meant opened r = r ≡ openedKept m opened
+  abbrev Said-g2 : Month → Ended → KeptEnd → Type 0
+  Said-g2 meant opened r = r ≡ endedKept m opened
 
   exits : (r : KeptEnd) (val-r : Val) (allotted-last : List ℕ) (accounts-last : List ℤ) → length allotted-last ≡ length (allotted .now) → length accounts-last ≡ length (accounts .now) → Told r allotted-last accounts-last → ent 𝓤 (⋆ 𝓤 H A (‵ (flft κ-plants q-plants) ∷ ‵ (flft κ-profile q-profile) ∷ ‵ (flft κ-allotted q-allotted) ∷ ‵ (flft κ-accounts q-accounts) ∷ ‵ Own-m ∷ ‵ Own-plants ∷ ‵ Own-profile ∷ ‵ (finally u64 (allotted .name) allotted-last) ∷ ‵ (finally i64 (accounts .name) accounts-last) ∷ ‵ (KeptEnd-T.the-row .own r (val-r ∷ [])) ∷ [])) (Post val-r)
   exits r val-r allotted-last accounts-last length-allotted length-accounts e =
@@ -168,15 +168,15 @@ module _ {M : Type 1} (𝓤 : URA M) (H : Heap 𝓤) (A : Atoms 𝓤) (W : Given
   goes-g1 : (meant : Month) (val-meant : Val) → ent 𝓤 (⋆ 𝓤 H A ((‵ (flft κ-plants q-plants) ⊛ (‵ (flft κ-profile q-profile) ⊛ (‵ (flft κ-allotted q-allotted) ⊛ (‵ (flft κ-accounts q-accounts) ⊛ (‵ (Month-T.the-row .own meant (val-meant ∷ [])) ⊛ (‵ Own-plants ⊛ (‵ Own-profile ⊛ (‵ Own-allotted ⊛ ‵ Own-accounts)))))))) ∷ [])) (Contract-g1 𝓤 H A mem run .pre (to-g1 meant val-meant))
   goes-g1 meant val-meant = qed W ((‵ (flft κ-plants q-plants) ⊛ (‵ (flft κ-profile q-profile) ⊛ (‵ (flft κ-allotted q-allotted) ⊛ (‵ (flft κ-accounts q-accounts) ⊛ (‵ (Month-T.the-row .own meant (val-meant ∷ [])) ⊛ (‵ Own-plants ⊛ (‵ Own-profile ⊛ (‵ Own-allotted ⊛ ‵ Own-accounts)))))))) ∷ []) ∵ split ! $ move ! (1 ∷ []) $ split ! $ move ! (1 ∷ []) $ split ! $ move ! (1 ∷ []) $ split ! $ move ! (1 ∷ []) $ split ! $ move ! (1 ∷ []) $ split ! $ move ! (1 ∷ []) $ split ! $ move ! (1 ∷ []) $ split ! $ owned ! u64 (Is u64) (uint-makes 𝓤 H A W w64) tariff _ (refl, fits-tariff) $ nothing ! $ move ! (7 ∷ 0 ∷ []) $ join ! $ move ! (7 ∷ 0 ∷ []) $ join ! $ move ! (7 ∷ 0 ∷ []) $ join ! $ move ! (7 ∷ 0 ∷ []) $ join ! $ nothing ! $ move ! (4 ∷ 0 ∷ []) $ fjoin ! $ move ! (3 ∷ 0 ∷ []) $ fjoin ! $ move ! (2 ∷ 0 ∷ []) $ fjoin ! $ move ! (2 ∷ 0 ∷ []) $ fjoin ! $ move ! (2 ∷ 0 ∷ []) $ fjoin ! $ move ! (2 ∷ 0 ∷ []) $ fjoin ! $ move ! (1 ∷ 0 ∷ []) $ join ! $ frame ! $ done !
 
-  -- the call of `kept_month::opened_kept`
-  abbrev given-g2 : Opened → (KeptMonth × (Opened × Unit {0}))
+  -- the call of `kept_month::ended_kept`
+  abbrev given-g2 : Ended → (KeptMonth × (Ended × Unit {0}))
   given-g2 opened = (m, (opened, tt))
 
-  abbrev to-g2 : Opened → Val → Contract-g2 𝓤 H A mem run .Ghost
+  abbrev to-g2 : Ended → Val → Contract-g2 𝓤 H A mem run .Ghost
   to-g2 opened val-opened = ((tt, tt, tt, given-g2 opened, (val-m ∷ [], (val-opened ∷ [], tt))), tt)
 
-  goes-g2 : (opened : Opened) (val-opened : Val) → ent 𝓤 (⋆ 𝓤 H A ((‵ Own-m ⊛ ‵ (Opened-T.the-row .own opened (val-opened ∷ []))) ∷ [])) (Contract-g2 𝓤 H A mem run .pre (to-g2 opened val-opened))
-  goes-g2 opened val-opened = qed W ((‵ Own-m ⊛ ‵ (Opened-T.the-row .own opened (val-opened ∷ []))) ∷ []) ∵ split ! $ nothing ! $ nothing ! $ move ! (3 ∷ 0 ∷ []) $ fjoin ! $ move ! (2 ∷ 0 ∷ []) $ fjoin ! $ move ! (1 ∷ 0 ∷ []) $ join ! $ frame ! $ done !
+  goes-g2 : (opened : Ended) (val-opened : Val) → ent 𝓤 (⋆ 𝓤 H A ((‵ Own-m ⊛ ‵ (Ended-T.the-row .own opened (val-opened ∷ []))) ∷ [])) (Contract-g2 𝓤 H A mem run .pre (to-g2 opened val-opened))
+  goes-g2 opened val-opened = qed W ((‵ Own-m ⊛ ‵ (Ended-T.the-row .own opened (val-opened ∷ []))) ∷ []) ∵ split ! $ nothing ! $ nothing ! $ move ! (3 ∷ 0 ∷ []) $ fjoin ! $ move ! (2 ∷ 0 ∷ []) $ fjoin ! $ move ! (1 ∷ 0 ∷ []) $ join ! $ frame ! $ done !
 
   module _ (C : Calls 𝓤 H) (Λ : Loops 𝓤 H) (fm : FmC 𝓤 H (W .laws) C) (known-g0 : Triple 𝓤 (C #g0) (Contract-g0 𝓤 H A mem run)) (known-g1 : Triple 𝓤 (C #g1) (Contract-g1 𝓤 H A mem run)) (known-g2 : Triple 𝓤 (C #g2) (Contract-g2 𝓤 H A mem run)) where
     walk : Is KeptMonth-T.the-row m (val-m ∷ []) → ent 𝓤 (onEntry 𝓤 H A f.signature (κ-plants, (κ-profile, (κ-allotted, (κ-accounts, tt)))) (q-plants, (q-profile, (q-allotted, (q-accounts, tt)))) (m, (plants, (profile, (tariff, (allotted, (accounts, tt)))))) at) (WpFn 𝓤 H C Λ code.function (val-m ∷ val-plants ∷ val-profile ∷ val-tariff ∷ val-allotted ∷ val-accounts ∷ []) Post)
@@ -198,7 +198,7 @@ module _ {M : Type 1} (𝓤 : URA M) (H : Heap 𝓤) (A : Atoms 𝓤) (W : Given
         assigns ! (addr ! (from ! (fld ! refl (hop ! (look-in ! 23 (sub ! 0 refl (whole !))) (stop !))))) (from ! (stop !)) (init ! 13 refl (tt, tt)) $ assigns ! (agg ! (and-then ! (load ! (from ! (stop !)) (look ! 13 refl)) (and-then ! (load ! (from ! (fld ! refl (stop !))) (look-in ! 23 (sub ! 1 refl (whole !)))) (no-more !)))) (from ! (stop !)) (init ! 11 refl (tt, (tt, (record { fits = room-accounts .0 }, tt)))) $
         move ! (10 ∷ []) $ use1 W (‵ Own-plants ⊛ ‵ Own-plants) (shr-slice-copy 𝓤 H A W (named 0) κ-plants Plant-T.the-row .twice plants (val-plants ∷ [])) $ split ! $ move ! (11 ∷ []) $ use1 W (‵ Own-profile ⊛ ‵ Own-profile) (shr-slice-copy 𝓤 H A W (named 1) κ-profile u64 .twice profile (val-profile ∷ [])) $ split ! $ move ! (11 ∷ 10 ∷ []) $ join ! $ move ! (2 ∷ 0 ∷ []) $ join ! $ move ! (3 ∷ 0 ∷ []) $ join ! $ move ! (3 ∷ 0 ∷ []) $ join ! $ move ! (4 ∷ 0 ∷ []) $ join ! $ move ! (4 ∷ 0 ∷ []) $ join ! $ move ! (4 ∷ 0 ∷ []) $ join ! $ move ! (4 ∷ 0 ∷ []) $ join ! $ use1 W (raw (Contract-g1 𝓤 H A mem run .pre (to-g1 meant val-meant))) (goes-g1 meant val-meant) $
         calls-at ! fm (Contract-g1 𝓤 H A mem run) known-g1 (to-g1 meant val-meant) (and-then ! (load ! (from ! (stop !)) (look ! 15 refl)) (and-then ! (load ! (from ! (stop !)) (look ! 25 refl)) (and-then ! (load ! (from ! (stop !)) (look ! 23 refl)) (and-then ! (load ! (from ! (stop !)) (look ! 21 refl)) (and-then ! (load ! (from ! (stop !)) (look ! 9 refl)) (and-then ! (load ! (from ! (stop !)) (look ! 5 refl)) (no-more !))))))) (λ val-opened.
-        use1 W (later (some (λ (opened : Opened). ((‵ (flft κ-plants q-plants) ⊛ (‵ (flft κ-profile q-profile) ⊛ (‵ (flft κ-allotted q-allotted) ⊛ (‵ (flft κ-accounts q-accounts) ⊛ ‵ ftrue)))) ⊛ ‵ (Opened-T.the-row .own opened (val-opened ∷ []))) ⊛ raw (ensured 𝓤 H A g1.ended (g1.clauses 𝓤 H A mem run) (κ-plants, (κ-profile, (κ-allotted, (κ-accounts, tt)))) (given-g1 meant) tt opened)))) (id⊢ 𝓤 _) $ await ! tt $ pick ! (λ opened.
+        use1 W (later (some (λ (opened : Ended). ((‵ (flft κ-plants q-plants) ⊛ (‵ (flft κ-profile q-profile) ⊛ (‵ (flft κ-allotted q-allotted) ⊛ (‵ (flft κ-accounts q-accounts) ⊛ ‵ ftrue)))) ⊛ ‵ (Ended-T.the-row .own opened (val-opened ∷ []))) ⊛ raw (ensured 𝓤 H A g1.ended (g1.clauses 𝓤 H A mem run) (κ-plants, (κ-profile, (κ-allotted, (κ-accounts, tt)))) (given-g1 meant) tt opened)))) (id⊢ 𝓤 _) $ await ! tt $ pick ! (λ opened.
         split ! $ move ! (1 ∷ []) $ use1 W (some (λ (ws-g1 : (Unit {0} × (Unit {0} × (Unit {0} × (Unit {0} × (List ℕ × (List ℤ × Unit {0}))))))). ‵ (lasts g1.ended (κ-plants, (κ-profile, (κ-allotted, (κ-accounts, tt)))) (given-g1 meant) ws-g1) ⊛ raw (fact 𝓤 (Said-g1 meant opened (ws-g1 .1 .1 .1 .1 .0) (ws-g1 .1 .1 .1 .1 .1 .0))))) (id⊢ 𝓤 _) $ pick ! (λ ws-g1.
         split ! $ move ! (1 ∷ []) $ heard ! (Said-g1 meant opened (ws-g1 .1 .1 .1 .1 .0) (ws-g1 .1 .1 .1 .1 .1 .0)) (λ is-opened.
         fsplit ! $ drop ! $ fsplit ! $ drop ! $ fsplit ! $ drop ! $ fsplit ! $ drop ! $ fsplit ! $ fsplit ! $ move ! (1 ∷ []) $
@@ -206,7 +206,7 @@ module _ {M : Type 1} (𝓤 : URA M) (H : Heap 𝓤) (A : Atoms 𝓤) (W : Given
         move ! (1 ∷ []) $ fsplit ! $ fsplit ! $ move ! (1 ∷ []) $
         feqL ! (λ length-accounts.
         move ! (1 ∷ []) $ drop ! $ move ! (2 ∷ []) $ split ! $ split ! $ move ! (1 ∷ []) $ split ! $ move ! (1 ∷ []) $ split ! $ move ! (1 ∷ []) $ split ! $ move ! (1 ∷ []) $ drop ! $ move ! (4 ∷ []) $
-        peeks ! Opened-T.the-row (Is Opened-T.the-row) (shows 𝓤 H A Opened-T.the-row) opened (val-opened ∷ []) (λ is-own-opened. land ! (from ! (stop !)) (init ! 19 refl (LL.lawful Opened-T.the-type Opened-L.the-laws 𝓤 H A W .typed opened (val-opened ∷ []) is-own-opened .0)) $
+        peeks ! Ended-T.the-row (Is Ended-T.the-row) (shows 𝓤 H A Ended-T.the-row) opened (val-opened ∷ []) (λ is-own-opened. land ! (from ! (stop !)) (init ! 19 refl (LL.lawful Ended-T.the-type Ended-L.the-laws 𝓤 H A W .typed opened (val-opened ∷ []) is-own-opened .0)) $
         -- [o-opened; t-accounts; t-allotted; t-profile; t-plants; accounts-last; allotted-last; o-profile; o-plants; o-m; o-tariff; c12; d12; c11; …]
         move ! (9 ∷ []) $ use1 W (‵ Own-m ⊛ ‵ Own-m) (LL.copy KeptMonth-T.the-type KeptMonth-L.the-copy 𝓤 H A W .twice m (val-m ∷ [])) $ split ! $ move ! (1 ∷ 2 ∷ []) $ join ! $ use1 W (raw (Contract-g2 𝓤 H A mem run .pre (to-g2 opened val-opened))) (goes-g2 opened val-opened) $
         calls-at ! fm (Contract-g2 𝓤 H A mem run) known-g2 (to-g2 opened val-opened) (and-then ! (load ! (from ! (stop !)) (look ! 33 refl)) (and-then ! (load ! (from ! (stop !)) (look ! 19 refl)) (no-more !))) (λ val-r.
@@ -234,4 +234,4 @@ iolwarch-open-spec 𝓤 H 𝓜 𝓖 𝓡 =
     (iolwarch-open-meets 𝓤 H (𝓖 .A) (givenOf 𝓤 H 𝓜 𝓖) (𝓜 .mem) (𝓡 .run) (tablesOf 𝓤 H 𝓜 (tables 𝓤 H 𝓜 𝓡 code.env))
     (cited 𝓤 H (Contract-g0 𝓤 H (𝓖 .A) (𝓜 .mem) (𝓡 .run)) 𝓜 𝓡 code.env #g0 g0-def.routine code.calls-kept-month·month-of (g0-thm.met 𝓤 H 𝓜 𝓖 𝓡))
     (cited 𝓤 H (Contract-g1 𝓤 H (𝓖 .A) (𝓜 .mem) (𝓡 .run)) 𝓜 𝓡 code.env #g1 g1-def.routine code.calls-month·Month·open (g1-thm.met 𝓤 H 𝓜 𝓖 𝓡))
-    (cited 𝓤 H (Contract-g2 𝓤 H (𝓖 .A) (𝓜 .mem) (𝓡 .run)) 𝓜 𝓡 code.env #g2 g2-def.routine code.calls-kept-month·opened-kept (g2-thm.met 𝓤 H 𝓜 𝓖 𝓡)))
+    (cited 𝓤 H (Contract-g2 𝓤 H (𝓖 .A) (𝓜 .mem) (𝓡 .run)) 𝓜 𝓡 code.env #g2 g2-def.routine code.calls-kept-month·ended-kept (g2-thm.met 𝓤 H 𝓜 𝓖 𝓡)))

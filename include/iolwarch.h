@@ -39,8 +39,13 @@ extern "C" {
 /* The stack that a call needs, in bytes. */
 #define IOLWARCH_STACK 98304
 
-/* The places that a month file's plant table needs: 512 for each of its five columns. */
-#define IOLWARCH_COLUMNS 2560
+/* The most plants and periods that a month has, and the most bytes that a line of its file has. */
+#define IOLWARCH_PLANTS 512
+#define IOLWARCH_PERIODS 744
+#define IOLWARCH_LINE 8192
+
+/* The places that a month file's plant table needs, in its five columns. */
+#define IOLWARCH_COLUMNS (5 * IOLWARCH_PLANTS)
 
 /* The numbers, from the questions of document 01. Each line says what must hold; where it does not, its number is
  * answered. P is the number of plants, H the number of periods, TEO the tariff. 5 to 8 are put row by row: all four of
@@ -326,7 +331,8 @@ iolwarch_place iolwarch_field(const uint8_t *line, size_t line_length, uint64_t 
  *     text                        65,664 bytes   for finish: the statement, or the refusal
  *
  * The plant table lies in IOLWARCH_COLUMNS figures, column by column in the order of a P line (submarket, number,
- * guarantee, loss, availability): 512 places for each column, of which the rows that were read take the first.
+ * guarantee, loss, availability): IOLWARCH_PLANTS places for each column, of which the rows that were read take the
+ * first.
  *
  * Longer lists will do; keep nothing of your own behind what is used: a feed may write there. Each call looks over the
  * table and the ledger that are kept, so few long parts are cheaper than many short ones. */
@@ -377,12 +383,12 @@ iolwarch_finished iolwarch_file_finish(iolwarch_file file,
 /* Everything that a month file needs, for a month at the limits and so for any: 124,976 bytes, so make it static. */
 typedef struct {
     iolwarch_file file;
-    uint8_t line[8192];
+    uint8_t line[IOLWARCH_LINE];
     uint64_t columns[IOLWARCH_COLUMNS];
-    uint64_t profile[744];
-    uint64_t allotted[4 * 512];
-    int64_t accounts[2 * 512];
-    uint8_t text[128 * 512 + 128];
+    uint64_t profile[IOLWARCH_PERIODS];
+    uint64_t allotted[4 * IOLWARCH_PLANTS];
+    int64_t accounts[2 * IOLWARCH_PLANTS];
+    uint8_t text[128 * IOLWARCH_PLANTS + 128];
 } iolwarch_workspace;
 
 /* Before the first byte of each file: the workspace may have any content. */
@@ -395,7 +401,8 @@ static inline void iolwarch_workspace_begin(iolwarch_workspace *w)
 static inline uint64_t iolwarch_workspace_feed(iolwarch_workspace *w, const uint8_t *part, size_t length)
 {
     iolwarch_fed fed = iolwarch_file_feed(w->file, part, length, w->line, sizeof w->line, w->columns, IOLWARCH_COLUMNS,
-                                          w->profile, 744, w->allotted, 4 * 512, w->accounts, 2 * 512);
+                                          w->profile, IOLWARCH_PERIODS, w->allotted, 4 * IOLWARCH_PLANTS,
+                                          w->accounts, 2 * IOLWARCH_PLANTS);
     w->file = fed.file;
     return fed.number;
 }
@@ -403,8 +410,9 @@ static inline uint64_t iolwarch_workspace_feed(iolwarch_workspace *w, const uint
 /* After the last part: answers the finish's number and how many bytes of w->text are the file's output. */
 static inline iolwarch_finished iolwarch_workspace_finish(iolwarch_workspace *w)
 {
-    return iolwarch_file_finish(w->file, w->line, sizeof w->line, w->columns, IOLWARCH_COLUMNS, w->profile, 744,
-                                w->allotted, 4 * 512, w->accounts, 2 * 512, w->text, sizeof w->text);
+    return iolwarch_file_finish(w->file, w->line, sizeof w->line, w->columns, IOLWARCH_COLUMNS, w->profile,
+                                IOLWARCH_PERIODS, w->allotted, 4 * IOLWARCH_PLANTS, w->accounts, 2 * IOLWARCH_PLANTS,
+                                w->text, sizeof w->text);
 }
 
 /* Shares a total over weights: the i-th part is floor(total x Ci / W) - floor(total x C(i-1) / W), where Ci is the sum

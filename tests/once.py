@@ -3,12 +3,16 @@
 Used is what is reached by name from what readers and the prover begin with: a contract, the proof of a function, a theorem that
 docs/RULES.md names; and of the code an exported function, `main`, or a call of document 01 for callers in Rattle. A name that a `use`
 line takes is used where its file names it. Twice is a run of six lines that stands in two places, a law that states what another
-states but for the names of its variables, and a record or struct with another's fields. The walks by hand over plant records are
-alike from end to end, so one tool writes them: each of them has to be what tools/outer.py writes. The last line is 'N passed, M failed'.
+states but for the names of its variables, a law that only hands on another, and a record or struct with another's fields. The walks
+by hand over plant records are alike from end to end, so one tool writes them: each of them has to be what tools/outer.py writes. The
+last line is 'N passed, M failed'.
 
 Names are looked up as words: a lemma that has the name of a local variable of its file passes, and so does a function that has the name of a
 method which any crate calls. Whether fields, constructors, structs and constants are used is not held, nor copies of code or proofs with other
-names in them. Laws are compared with the modules around them as they are written: one that is an instance of another passes."""
+names in them. Laws are compared with the modules around them as they are written: one that is an instance of another passes. A law only hands
+on another where its one clause is that law, of the same conclusion, with words and fields as arguments, and where it is `pub` and no argument
+is a law of its file, or is cited there once, or where two hand on the same law. Files of functions' proofs are not looked at for it, nor a law
+that is cited through a module's name."""
 import collections
 import functools
 import itertools
@@ -333,13 +337,23 @@ def statements(path):
                 yield number, " → ".join([given for _, given in around] + [stated])
 
 
-def unnamed(statement):
-    """A statement with its variables numbered in the order in which they come."""
+def conclusion(statement):
+    """What stands behind the last arrow that no bracket holds."""
+    depth, end = 0, 0
+    for found in re.finditer(r"[(){}]|→", statement):
+        depth += (found[0] in "({") - (found[0] in ")}")
+        if depth == 0 and found[0] == "→":
+            end = found.end()
+    return statement[end:].strip()
+
+
+def unnamed(statement, part):
+    """A part of a statement with the statement's variables numbered in the order in which they come."""
     bound = {name for group in re.findall(r"[({]([^(){}:]+?) : ", statement) for name in group.split()}
     bound |= {name for group in re.findall(r"λ ([^.]*)\.", statement) for name in re.sub(r"[(){}]|: [^()]*", "", group).split()}
     numbers = {}
     return re.sub(
-        r"(?<![\w.])[^\s(){}.,;]+", lambda word: f"v{numbers.setdefault(word[0], len(numbers))}" if word[0] in bound else word[0], statement
+        r"(?<![\w.])[^\s(){}.,;]+", lambda word: f"v{numbers.setdefault(word[0], len(numbers))}" if word[0] in bound else word[0], part
     ).translate(str.maketrans("{}", "()"))
 
 
@@ -362,7 +376,44 @@ def said(what, found):
 
 def laws_of(path):
     if path.parent.name == "proofs":
-        yield from ((number, unnamed(one)) for number, one in statements(path) if "→" in one)
+        yield from ((number, unnamed(one, one)) for number, one in statements(path) if "→" in one)
+
+
+class Laws:
+    """The laws of a file of proofs: of each its line, its conclusion, whether others may cite it, and the bodies of its clauses."""
+
+    def __init__(self, path):
+        lines = re.sub("--.*", "", path.read_text()).splitlines()
+        self.line, self.says, self.public, self.bodies = {}, {}, set(), collections.defaultdict(list)
+        for number, one in statements(path):
+            name = declared(lines[number - 1].strip())
+            self.line[name], self.says[name] = number, unnamed(one, conclusion(one))
+            if lines[number - 1].strip().startswith("pub "):
+                self.public.add(name)
+        for _, _, text in blocks(lines):
+            if (clause := re.match(r"(\S+)(?: [^=]*)? = (.*)", text)) and clause[1] in self.line and not declared(text):
+                self.bodies[clause[1]].append(clause[2])
+
+
+def handing():
+    """Every law with one clause that is another law, of the same conclusion, with words and fields as its arguments."""
+    found = {path: Laws(path) for path in sources() if path.parent.name == "proofs"}
+    for path, here in found.items():
+        for name, bodies in here.bodies.items():
+            if len(bodies) == 1 and (other := re.fullmatch(r"([^\s(){}]+)((?: [^\s(){}]+| \([^\s(){}]+(?: \.\w+)+\))*)", bodies[0])):
+                home_of, law = sources()[path].names.get(other[1], (path, other[1]))
+                if home_of in found and law != name and here.says[name] == found[home_of].says.get(law):
+                    yield path, here, name, (home_of, law), set(other[2].split()) & here.line.keys()
+
+
+def handed():
+    """No law only hands on another: one that others may cite instead, that is cited once, or that is handed on at two places."""
+    found = list(handing())
+    for path, here, name, law, laws_in in found:
+        cites = sum(len(re.findall(rf"(?<![\w-]){re.escape(name)}(?![\w′-])", body)) for body in itertools.chain(*here.bodies.values()))
+        only = name in here.public and not laws_in or cites < 2 and name not in here.public
+        again = sum(other == law for _, _, _, other, _ in found) > 1
+        yield not only and not again, f"{place(path, here.line[name])}: {name} only hands on {law[1]}"
 
 
 def records_of(path):
@@ -372,7 +423,7 @@ def records_of(path):
 def main():
     made = written()
     for good, what in itertools.chain(
-        laws(), imports(), functions(), walks(made), twice(made), said("law", laws_of), said("list of fields", records_of)
+        laws(), imports(), functions(), walks(made), twice(made), said("law", laws_of), handed(), said("list of fields", records_of)
     ):
         check(good, what)
     return counted()

@@ -13,28 +13,24 @@
 
 #include "iolwarch.h"
 
-#define PLANTS 512
-#define PERIODS 744
-#define LINE 8192
-
 /* The first line's figures; the P and H lines taken so far; the month, blank until the last H line is taken. */
 static uint64_t periods, plants, tariff;
 static size_t rows, hours;
 static iolwarch_month month;
 
-static iolwarch_plant table[PLANTS];
-static uint64_t profile[PERIODS];
-static uint64_t allotment[4 * PLANTS];
-static uint64_t allotted[4 * PLANTS];
-static int64_t accounts[2 * PLANTS];
-static uint8_t statement[128 * PLANTS + 128];
+static iolwarch_plant table[IOLWARCH_PLANTS];
+static uint64_t profile[IOLWARCH_PERIODS];
+static uint64_t allotment[4 * IOLWARCH_PLANTS];
+static uint64_t allotted[4 * IOLWARCH_PLANTS];
+static int64_t accounts[2 * IOLWARCH_PLANTS];
+static uint8_t statement[128 * IOLWARCH_PLANTS + 128];
 
 /* Fills `line` up to a byte 10, the file's end or a read error (both EOF), or one byte more than a line may have.
  * Answers how many bytes it took, and in `last` what stopped it. */
-static size_t next_line(uint8_t line[LINE + 1], int *last)
+static size_t next_line(uint8_t line[IOLWARCH_LINE + 1], int *last)
 {
     size_t length = 0;
-    while (length <= LINE && (*last = getchar()) != EOF && *last != '\n') {
+    while (length <= IOLWARCH_LINE && (*last = getchar()) != EOF && *last != '\n') {
         line[length++] = (uint8_t)*last;
     }
     return length;
@@ -57,10 +53,10 @@ static int in_turn(uint64_t start, uint64_t period)
 
 static uint64_t begin(const uint64_t *figures)
 {
-    if (figures[1] < 1 || figures[1] > PLANTS) {
+    if (figures[1] < 1 || figures[1] > IOLWARCH_PLANTS) {
         return 2;
     }
-    if (figures[0] < 1 || figures[0] > PERIODS) {
+    if (figures[0] < 1 || figures[0] > IOLWARCH_PERIODS) {
         return 3;
     }
     if (figures[2] > 10000) {
@@ -91,8 +87,8 @@ static uint64_t settle_hour(const uint64_t *metered, size_t length)
 /* Takes a line. Answers 0, or the number with which it is refused. */
 static uint64_t take(const uint8_t *bytes, size_t length, int ended)
 {
-    uint64_t figures[PLANTS + 1];
-    iolwarch_line line = iolwarch_read_line(bytes, length, figures, PLANTS + 1);
+    uint64_t figures[IOLWARCH_PLANTS + 1];
+    iolwarch_line line = iolwarch_read_line(bytes, length, figures, IOLWARCH_PLANTS + 1);
     if (line.number != 0) {
         return line.number;
     }
@@ -144,7 +140,7 @@ static int fail(const char *what)
 
 int main(void)
 {
-    uint8_t line[LINE + 1];
+    uint8_t line[IOLWARCH_LINE + 1];
     uint64_t count = 0;
     uint64_t number;
     size_t stated = 0;

@@ -80,6 +80,8 @@ static void transfers(void)
              refused);
 }
 
+static const iolwarch_month blank = {0, 0, 0, 0, 0};
+
 static int same_month(iolwarch_month a, iolwarch_month b)
 {
     return memcmp(&a, &b, sizeof a) == 0;
@@ -152,10 +154,11 @@ static iolwarch_settled settle(lists *l, iolwarch_month month)
                            l->allotted, 4 * ROWS, l->accounts, 2 * ROWS);
 }
 
+static const iolwarch_table none = {{{0}}};
+
 /* What a refused settle answers beside its number: the month as it came, and zeros. */
 static int unsettled(iolwarch_settled answer, iolwarch_month month)
 {
-    const iolwarch_table none = {{{0}}};
     return same_month(answer.month, month) && answer.secondary == 0 && answer.guarantees == 0 &&
            memcmp(&answer.cover_table, &none, sizeof none) == 0 &&
            memcmp(&answer.secondary_table, &none, sizeof none) == 0;
@@ -200,7 +203,6 @@ static void month_fields(void)
 /* Open and settle refused: the number, the month as it came, and every list as it was. */
 static void refusals(void)
 {
-    const iolwarch_month blank = {0, 0, 0, 0, 0};
     const iolwarch_month open = {1, ROWS, 1, 1300, 1};
     const iolwarch_month strange = {7, 8, 9, 10, 11};
     const iolwarch_month settled = {1, ROWS, 1, 1300, 2};
@@ -244,7 +246,6 @@ typedef struct {
 
 static iolwarch_end open_single(single *s)
 {
-    const iolwarch_month blank = {0, 0, 0, 0, 0};
     return iolwarch_open(blank, &s->plant, 1, s->profile, 1, 7, s->allotted, 4, s->accounts, 2);
 }
 
@@ -288,11 +289,10 @@ static void example_month(void)
     const uint64_t m2[4 * ROWS + 1] = {114, 0, 0, 0, 57, 0, 0, 0, 29, 40, 0, 0, 912};
     const int64_t accounts2[2 * ROWS + 1] = {86, 111800, -57, -74100, -29, -37700, -506};
     const uint64_t columns[4] = {150, 30, 0, 0};
-    const iolwarch_table none = {{{0}}};
     iolwarch_table sent = none;
     lists l = example();
     size_t i;
-    iolwarch_end end = open_rows(&l, (iolwarch_month){0, 0, 0, 0, 0}, ROWS);
+    iolwarch_end end = open_rows(&l, blank, ROWS);
     iolwarch_settled answer;
     iolwarch_sums sums;
     check(end.number == 0 && same_month(end.month, (iolwarch_month){1, ROWS, 1, 1300, 1}), "m1 opened");
@@ -393,7 +393,7 @@ static void statements(void)
 {
     static iolwarch_plant many[MANY];
     lists l = example();
-    iolwarch_month month = open_rows(&l, (iolwarch_month){0, 0, 0, 0, 0}, ROWS).month;
+    iolwarch_month month = open_rows(&l, blank, ROWS).month;
     uint8_t bytes[ROOM];
     uint8_t wanted[ROOM];
     iolwarch_stated stated;
@@ -500,8 +500,10 @@ static void file_fields(void)
     feed("H lines", ",970000,900000\nP,3,30,61,1000000,1000000\nP,4,40,62,1000000,1000000\nH,1,180\nH,2,181\n"
                     "H,3,");
     gathers("inside the third H line", 4, 8, 5, 2);
-    check(work.columns[2] == 2 && work.columns[512 + 2] == 20 && work.columns[2 * 512 + 2] == 60, "the third row");
-    check(work.columns[3 * 512 + 2] == 970000 && work.columns[4 * 512 + 2] == 900000, "the third row's factors");
+    check(work.columns[2] == 2 && work.columns[IOLWARCH_PLANTS + 2] == 20, "the third row");
+    check(work.columns[2 * IOLWARCH_PLANTS + 2] == 60, "the third row's guarantee");
+    check(work.columns[3 * IOLWARCH_PLANTS + 2] == 970000, "the third row's loss");
+    check(work.columns[4 * IOLWARCH_PLANTS + 2] == 900000, "the third row's availability");
     feed("G lines", "182\nH,4,183\nH,5,184\nH,6,185\nH,7,186\nG,1,130,20,30,0,0\nG,2,131,20,30,0,0\nG,3,1");
     check(work.file.stage == 2 && work.file.length == 5 && work.file.count == 15, "inside the third G line");
     is_month("the month of the file", work.file.month, 1, 5, 7, 1300, 3);
@@ -517,13 +519,14 @@ static void file_fields(void)
     check(work.file.stage == 3 && work.file.count == 16 && work.file.number == 15, "refused still");
 }
 
+static const uint8_t first_line[] = "MRE,1,1,3,1300\n";
+
 /* Feed and finish refused: the number, and state, lists and text as they were. */
 static void unknown(const char *what, uint64_t number)
 {
-    const uint8_t part[] = "MRE,1,1,3,1300\n";
     iolwarch_finished end;
     memcpy(&before, &work, sizeof work);
-    check(iolwarch_workspace_feed(&work, part, sizeof part - 1) == number, what);
+    check(iolwarch_workspace_feed(&work, first_line, sizeof first_line - 1) == number, what);
     check(memcmp(&before, &work, sizeof work) == 0, what);
     end = iolwarch_workspace_finish(&work);
     check(end.number == number && end.length == 0 && memcmp(&before, &work, sizeof work) == 0, what);
@@ -532,15 +535,15 @@ static void unknown(const char *what, uint64_t number)
 /* One list too short, by its place among the six. The last is the text, which feed is not lent. */
 static void short_list(const char *what, int list)
 {
-    const uint8_t part[] = "MRE,1,1,3,1300\n";
-    size_t n[6] = {8192, IOLWARCH_COLUMNS, 744, 4 * 512, 2 * 512, 128 * 512 + 128};
+    size_t n[6] = {IOLWARCH_LINE, IOLWARCH_COLUMNS, IOLWARCH_PERIODS, 4 * IOLWARCH_PLANTS, 2 * IOLWARCH_PLANTS,
+                   128 * IOLWARCH_PLANTS + 128};
     iolwarch_fed fed;
     iolwarch_finished end;
     n[list]--;
     memcpy(&before, &work, sizeof work);
     if (list != 5) {
-        fed = iolwarch_file_feed(work.file, part, sizeof part - 1, work.line, n[0], work.columns, n[1], work.profile,
-                                 n[2], work.allotted, n[3], work.accounts, n[4]);
+        fed = iolwarch_file_feed(work.file, first_line, sizeof first_line - 1, work.line, n[0], work.columns, n[1],
+                                 work.profile, n[2], work.allotted, n[3], work.accounts, n[4]);
         check(fed.number == 30 && memcmp(&fed.file, &work.file, sizeof work.file) == 0, what);
     }
     end = iolwarch_file_finish(work.file, work.line, n[0], work.columns, n[1], work.profile, n[2], work.allotted, n[3],

@@ -13,9 +13,6 @@
 #include "check.h"
 #include "iolwarch.h"
 
-#define PLANTS 512
-#define PERIODS 744
-#define LINE 8192
 #define STACK 524288
 
 /* ---- the stack of its own */
@@ -79,13 +76,13 @@ static void nothing(void)
 
 /* ---- a month at the limits */
 
-static iolwarch_plant plants[PLANTS];
-static uint64_t profile[PERIODS];
-static uint64_t metered[PLANTS];
-static uint64_t allotment[4 * PLANTS];
-static uint64_t allotted[4 * PLANTS];
-static int64_t accounts[2 * PLANTS];
-static uint8_t bytes[128 * PLANTS + 128];
+static iolwarch_plant plants[IOLWARCH_PLANTS];
+static uint64_t profile[IOLWARCH_PERIODS];
+static uint64_t metered[IOLWARCH_PLANTS];
+static uint64_t allotment[4 * IOLWARCH_PLANTS];
+static uint64_t allotted[4 * IOLWARCH_PLANTS];
+static int64_t accounts[2 * IOLWARCH_PLANTS];
+static uint8_t bytes[128 * IOLWARCH_PLANTS + 128];
 static iolwarch_month month;
 static uint64_t seed = 1;
 
@@ -100,14 +97,14 @@ static uint64_t below(uint64_t limit)
 static void make_tables(void)
 {
     size_t i;
-    for (i = 0; i < PLANTS; i++) {
+    for (i = 0; i < IOLWARCH_PLANTS; i++) {
         plants[i].submarket = 1 + i / 128;
         plants[i].number = 1 + i;
         plants[i].guarantee = UINT64_C(744000000) * (i % 7);
         plants[i].loss = 1000000 - i;
         plants[i].availability = 999000 + i;
     }
-    for (i = 0; i < PERIODS; i++) {
+    for (i = 0; i < IOLWARCH_PERIODS; i++) {
         profile[i] = UINT64_C(1000000000) + i * 1343000;
     }
 }
@@ -117,18 +114,18 @@ static void meter(size_t period)
 {
     uint64_t rest = profile[period];
     size_t i;
-    for (i = 0; i + 1 < PLANTS; i++) {
-        metered[i] = below(2 * rest / (PLANTS - i) + 1);
+    for (i = 0; i + 1 < IOLWARCH_PLANTS; i++) {
+        metered[i] = below(2 * rest / (IOLWARCH_PLANTS - i) + 1);
         rest -= metered[i];
     }
-    metered[PLANTS - 1] = rest;
+    metered[IOLWARCH_PLANTS - 1] = rest;
 }
 
 static void open_month(void)
 {
     const iolwarch_month blank = {0, 0, 0, 0, 0};
-    iolwarch_end end = iolwarch_open(blank, plants, PLANTS, profile, PERIODS, 10000, allotted, 4 * PLANTS, accounts,
-                                     2 * PLANTS);
+    iolwarch_end end = iolwarch_open(blank, plants, IOLWARCH_PLANTS, profile, IOLWARCH_PERIODS, 10000, allotted,
+                                     4 * IOLWARCH_PLANTS, accounts, 2 * IOLWARCH_PLANTS);
     month = end.month;
     refused |= end.number;
 }
@@ -144,15 +141,15 @@ static void prepare_hour(size_t period)
 static void settle_hour(void)
 {
     iolwarch_settled settled =
-        iolwarch_settle(month, plants, PLANTS, profile, PERIODS, metered, PLANTS, allotment, 4 * PLANTS, allotted,
-                        4 * PLANTS, accounts, 2 * PLANTS);
+        iolwarch_settle(month, plants, IOLWARCH_PLANTS, profile, IOLWARCH_PERIODS, metered, IOLWARCH_PLANTS, allotment,
+                        4 * IOLWARCH_PLANTS, allotted, 4 * IOLWARCH_PLANTS, accounts, 2 * IOLWARCH_PLANTS);
     month = settled.month;
     refused |= settled.number;
 }
 
 static void balance(void)
 {
-    refused |= iolwarch_balance(month, allotted, 4 * PLANTS, accounts, 2 * PLANTS).number;
+    refused |= iolwarch_balance(month, allotted, 4 * IOLWARCH_PLANTS, accounts, 2 * IOLWARCH_PLANTS).number;
 }
 
 static void close_month(void)
@@ -162,24 +159,26 @@ static void close_month(void)
 
 static void write_statement(void)
 {
-    refused |= iolwarch_statement(month, plants, PLANTS, allotted, 4 * PLANTS, accounts, 2 * PLANTS, bytes,
-                                  sizeof bytes)
+    refused |= iolwarch_statement(month, plants, IOLWARCH_PLANTS, allotted, 4 * IOLWARCH_PLANTS, accounts,
+                                  2 * IOLWARCH_PLANTS, bytes, sizeof bytes)
                    .number;
 }
 
 static void size_statement(void)
 {
-    refused |= iolwarch_statement_size(month, plants, PLANTS, allotted, 4 * PLANTS, accounts, 2 * PLANTS).number;
+    refused |= iolwarch_statement_size(month, plants, IOLWARCH_PLANTS, allotted, 4 * IOLWARCH_PLANTS, accounts,
+                                       2 * IOLWARCH_PLANTS)
+                   .number;
 }
 
 /* ---- sharing and the transfer step, with products past 64 bits */
 
-static uint64_t weights[PERIODS];
-static uint64_t parts[PERIODS];
+static uint64_t weights[IOLWARCH_PERIODS];
+static uint64_t parts[IOLWARCH_PERIODS];
 
 static void share(void)
 {
-    refused |= iolwarch_share((UINT64_C(1) << 62) - 1, weights, PERIODS, parts, PERIODS);
+    refused |= iolwarch_share((UINT64_C(1) << 62) - 1, weights, IOLWARCH_PERIODS, parts, IOLWARCH_PERIODS);
 }
 
 static void transfer(void)
@@ -192,9 +191,9 @@ static void transfer(void)
 /* ---- lines and files */
 
 static iolwarch_workspace work;
-static char text[LINE + 2];
+static char text[IOLWARCH_LINE + 2];
 static size_t text_length;
-static uint64_t figures[PLANTS + 1];
+static uint64_t figures[IOLWARCH_PLANTS + 1];
 
 /* A G line of 8,192 bytes, its end byte 10 left out: 513 fields, of 14 or 15 digits but for the first. */
 static void longest_line(size_t step)
@@ -202,19 +201,19 @@ static void longest_line(size_t step)
     size_t i;
     (void)step;
     text_length = (size_t)sprintf(text, "G,744");
-    for (i = 0; i < PLANTS; i++) {
+    for (i = 0; i < IOLWARCH_PLANTS; i++) {
         text_length += (size_t)sprintf(text + text_length, i < 507 ? ",100000000000000" : ",10000000000000");
     }
 }
 
 static void read_line(void)
 {
-    refused |= iolwarch_read_line((const uint8_t *)text, text_length, figures, PLANTS + 1).number;
+    refused |= iolwarch_read_line((const uint8_t *)text, text_length, figures, IOLWARCH_PLANTS + 1).number;
 }
 
 static void find_field(void)
 {
-    refused |= iolwarch_field((const uint8_t *)text, text_length, PLANTS + 1).number;
+    refused |= iolwarch_field((const uint8_t *)text, text_length, IOLWARCH_PLANTS + 1).number;
 }
 
 static void begin(void)
@@ -238,17 +237,18 @@ static void prepare_line(size_t step)
     size_t i;
     if (step == 0) {
         begin();
-        text_length = (size_t)sprintf(text, "MRE,1,%d,%d,10000\n", PERIODS, PLANTS);
-    } else if (step <= PLANTS) {
+        text_length = (size_t)sprintf(text, "MRE,1,%d,%d,10000\n", IOLWARCH_PERIODS, IOLWARCH_PLANTS);
+    } else if (step <= IOLWARCH_PLANTS) {
         const iolwarch_plant *p = &plants[step - 1];
         text_length = (size_t)sprintf(text, "P,%" PRIu64 ",%" PRIu64 ",%" PRIu64 ",%" PRIu64 ",%" PRIu64 "\n",
                                       p->submarket, p->number, p->guarantee, p->loss, p->availability);
-    } else if (step <= PLANTS + PERIODS) {
-        text_length = (size_t)sprintf(text, "H,%zu,%" PRIu64 "\n", step - PLANTS, profile[step - PLANTS - 1]);
+    } else if (step <= IOLWARCH_PLANTS + IOLWARCH_PERIODS) {
+        text_length = (size_t)sprintf(text, "H,%zu,%" PRIu64 "\n", step - IOLWARCH_PLANTS,
+                                      profile[step - IOLWARCH_PLANTS - 1]);
     } else {
-        meter(step - PLANTS - PERIODS - 1);
-        text_length = (size_t)sprintf(text, "G,%zu", step - PLANTS - PERIODS);
-        for (i = 0; i < PLANTS; i++) {
+        meter(step - IOLWARCH_PLANTS - IOLWARCH_PERIODS - 1);
+        text_length = (size_t)sprintf(text, "G,%zu", step - IOLWARCH_PLANTS - IOLWARCH_PERIODS);
+        for (i = 0; i < IOLWARCH_PLANTS; i++) {
             text_length += (size_t)sprintf(text + text_length, ",%" PRIu64, metered[i]);
         }
         text[text_length++] = '\n';
@@ -274,7 +274,7 @@ int main(void)
 {
     size_t i;
     make_tables();
-    for (i = 0; i < PERIODS; i++) {
+    for (i = 0; i < IOLWARCH_PERIODS; i++) {
         weights[i] = UINT64_C(6190000000000000) + i;
     }
     printf("IOLWARCH_STACK is %d bytes\n", IOLWARCH_STACK);
@@ -282,16 +282,16 @@ int main(void)
     measure("share", 1, as_it_is, share);
     measure("transfer", 1, as_it_is, transfer);
     measure("open", 1, as_it_is, open_month);
-    measure("settle, a whole month", PERIODS, prepare_hour, settle_hour);
+    measure("settle, a whole month", IOLWARCH_PERIODS, prepare_hour, settle_hour);
     measure("balance", 1, as_it_is, balance);
     measure("close", 1, as_it_is, close_month);
     measure("statement", 1, as_it_is, write_statement);
     measure("statement_size", 1, as_it_is, size_statement);
     measure("read_line", 1, longest_line, read_line);
-    check(text_length == LINE, "a line of 8,192 bytes");
+    check(text_length == IOLWARCH_LINE, "a line of 8,192 bytes");
     measure("field", 1, longest_line, find_field);
     measure("file_begin", 1, as_it_is, begin);
-    measure("file_feed, a whole file", 1 + PLANTS + 2 * PERIODS, prepare_line, feed);
+    measure("file_feed, a whole file", 1 + IOLWARCH_PLANTS + 2 * IOLWARCH_PERIODS, prepare_line, feed);
     measure("file_finish, its statement", 1, as_it_is, finish);
     check(work.text[0] == 'A', "the file was settled");
     measure("file_feed, a line refused", 1, refused_line, feed);

@@ -4,6 +4,7 @@
 use crate::count::Count;
 use crate::month::{compare, Given};
 use crate::recorder::{Month, Plant};
+use crate::worked::{three, ALLOTMENT, NETS};
 use std::collections::BTreeMap;
 
 const GUARANTEE: u64 = 1_000_000_000_000;
@@ -70,8 +71,6 @@ pub fn run(count: &mut Count) {
 
 /// A valid call: 01's example plants, Q doubled over two periods, and a ledger with figures in it.
 fn base(call: &str) -> Given {
-    let plant =
-        |submarket, number, guarantee| Plant { submarket, number, guarantee, loss: 1_000_000, availability: 1_000_000 };
     let (stage, due) = match call {
         "open" => (0, 1),
         "close" => (1, 3),
@@ -79,7 +78,7 @@ fn base(call: &str) -> Given {
     };
     Given {
         month: Month { stage, plants: 3, periods: 2, tariff: 1300, due },
-        plants: vec![plant(1, 10, 200), plant(1, 11, 100), plant(2, 20, 120)],
+        plants: three(200, 100, 120).to_vec(),
         profile: vec![180, 180],
         tariff: 1300,
         metered: vec![130, 20, 30],
@@ -290,24 +289,34 @@ fn ledgers(limits: &mut Limits, call: &'static str) {
     }
 }
 
-fn settling(limits: &mut Limits) {
-    for (stage, wanted) in [(0, 12), (1, 0), (2, 12)] {
-        limits.put("settle", 12, wanted, |at| at.month.stage = stage);
+/// 12 or 21, of a month that is blank, open and closed.
+fn stages(limits: &mut Limits, call: &'static str, question: u64, wanted: [u64; 3]) {
+    for (stage, wanted) in (0..).zip(wanted) {
+        limits.put(call, question, wanted, |at| at.month.stage = stage);
     }
     for stage in STRANGE {
-        limits.put("settle", 12, 12, |at| at.month.stage = stage);
+        limits.put(call, question, question, |at| at.month.stage = stage);
     }
+}
+
+/// 2 of the month's own P; lists made for another P are refused by `other`.
+fn own_plants(limits: &mut Limits, call: &'static str, other: u64) {
     for (plants, wanted) in
-        [(0, 2), (1, 13), (2, 13), (3, 0), (4, 13), (512, 13), (513, 2), (HIGH + 3, 2), (u64::MAX, 2)]
+        [(0, 2), (1, other), (2, other), (3, 0), (4, other), (512, other), (513, 2), (HIGH + 3, 2), (u64::MAX, 2)]
     {
-        limits.put("settle", 2, wanted, |at| at.month.plants = plants);
+        limits.put(call, 2, wanted, |at| at.month.plants = plants);
     }
     for (n, wanted) in [(0, 2), (1, 0), (512, 0), (513, 2)] {
-        limits.put("settle", 2, wanted, |at| {
+        limits.put(call, 2, wanted, |at| {
             rows(at, n);
             at.month.plants = n as u64;
         });
     }
+}
+
+fn settling(limits: &mut Limits) {
+    stages(limits, "settle", 12, [12, 0, 12]);
+    own_plants(limits, "settle", 13);
     for (periods, wanted) in [(0, 3), (1, 13), (2, 0), (3, 13), (744, 13), (745, 3), (HIGH + 2, 3), (u64::MAX, 3)] {
         limits.put("settle", 3, wanted, |at| at.month.periods = periods);
     }
@@ -328,10 +337,7 @@ fn settling(limits: &mut Limits) {
 /// 13.
 fn lent_as_many(limits: &mut Limits) {
     for (n, wanted) in [(0, 13), (2, 13), (3, 0), (4, 13), (512, 13), (513, 13), (600, 13)] {
-        limits.put("settle", 13, wanted, |at| {
-            let plants = at.plants.clone();
-            at.plants = plants.into_iter().cycle().take(n).collect();
-        });
+        limits.put("settle", 13, wanted, |at| at.plants = at.plants.iter().copied().cycle().take(n).collect());
     }
     // 513 rows for a month of 512, whose lists all fit.
     for (n, wanted) in [(512, 0), (513, 13)] {
@@ -387,13 +393,12 @@ fn metering(limits: &mut Limits) {
 
 /// 19 of a settle: each figure taken to its bound by this hour, and one past it. The hour is 01's m1.
 fn bounds(limits: &mut Limits) {
-    let allotment = [85, 0, 0, 0, 43, 0, 0, 0, 22, 30, 0, 0];
-    for (index, figure) in allotment.into_iter().enumerate() {
+    for (index, figure) in ALLOTMENT.into_iter().enumerate() {
         for (before, wanted) in [(KWH - figure, 0), (KWH - figure + 1, 19), (KWH + 1, 19), (u64::MAX, 19)] {
             limits.put("settle", 19, wanted, |at| at.allotted[index] = before);
         }
     }
-    for (row, net) in [45i64, -23, -22].into_iter().enumerate() {
+    for (row, net) in NETS.into_iter().enumerate() {
         for (index, moved, bound) in [(2 * row, net, KWH as i64), (2 * row + 1, 1300 * net, MONEY)] {
             let toward = moved.signum();
             for (before, wanted) in [
@@ -413,32 +418,14 @@ fn bounds(limits: &mut Limits) {
 }
 
 fn balancing(limits: &mut Limits) {
-    not_blank(limits, "balance");
-    for (plants, wanted) in [(0, 2), (2, 11), (3, 0), (4, 11), (512, 11), (513, 2), (HIGH + 3, 2), (u64::MAX, 2)] {
-        limits.put("balance", 2, wanted, |at| at.month.plants = plants);
-    }
-    for (n, wanted) in [(0, 2), (1, 0), (512, 0), (513, 2)] {
-        limits.put("balance", 2, wanted, |at| {
-            rows(at, n);
-            at.month.plants = n as u64;
-        });
-    }
+    stages(limits, "balance", 21, [21, 0, 0]);
+    own_plants(limits, "balance", 11);
     // It asks neither H nor TEO nor the period due.
     limits.put("balance", 2, 0, |at| {
         (at.month.periods, at.month.tariff, at.month.due) = (0, u64::MAX, u64::MAX);
     });
     ledgers(limits, "balance");
     at_hand(limits, "balance");
-}
-
-/// 21, which balance, statement and sizing put.
-fn not_blank(limits: &mut Limits, call: &'static str) {
-    for (stage, wanted) in [(0, 21), (1, 0), (2, 0)] {
-        limits.put(call, 21, wanted, |at| at.month.stage = stage);
-    }
-    for stage in STRANGE {
-        limits.put(call, 21, 21, |at| at.month.stage = stage);
-    }
 }
 
 /// 19 for the ledger at hand.
@@ -470,12 +457,7 @@ fn at_hand(limits: &mut Limits, call: &'static str) {
 }
 
 fn closing(limits: &mut Limits) {
-    for (stage, wanted) in [(0, 12), (1, 0), (2, 12)] {
-        limits.put("close", 12, wanted, |at| at.month.stage = stage);
-    }
-    for stage in STRANGE {
-        limits.put("close", 12, 12, |at| at.month.stage = stage);
-    }
+    stages(limits, "close", 12, [12, 0, 12]);
     for (periods, due, wanted) in [
         (0, 1, 3),
         (1, 2, 0),
@@ -496,24 +478,13 @@ fn closing(limits: &mut Limits) {
 
 /// The questions that statement and sizing both put.
 fn stating(limits: &mut Limits, call: &'static str) {
-    not_blank(limits, call);
-    for (plants, wanted) in [(0, 2), (2, 13), (3, 0), (4, 13), (512, 13), (513, 2), (HIGH + 3, 2), (u64::MAX, 2)] {
-        limits.put(call, 2, wanted, |at| at.month.plants = plants);
-    }
-    for (n, wanted) in [(0, 2), (1, 0), (512, 0), (513, 2)] {
-        limits.put(call, 2, wanted, |at| {
-            rows(at, n);
-            at.month.plants = n as u64;
-        });
-    }
+    stages(limits, call, 21, [21, 0, 0]);
+    own_plants(limits, call, 13);
     for (periods, wanted) in [(0, 3), (1, 0), (744, 0), (745, 3), (HIGH + 2, 3), (u64::MAX, 3)] {
         limits.put(call, 3, wanted, |at| at.month.periods = periods);
     }
     for (n, wanted) in [(0, 13), (2, 13), (3, 0), (4, 13), (513, 13), (600, 13)] {
-        limits.put(call, 13, wanted, |at| {
-            let plants = at.plants.clone();
-            at.plants = plants.into_iter().cycle().take(n).collect();
-        });
+        limits.put(call, 13, wanted, |at| at.plants = at.plants.iter().copied().cycle().take(n).collect());
     }
     for (due, wanted) in [(0, 14), (1, 0), (2, 0), (3, 0), (4, 14), (HIGH + 1, 14), (u64::MAX, 14)] {
         for stage in [1, 2] {

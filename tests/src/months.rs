@@ -3,7 +3,7 @@
 
 use crate::count::Count;
 use crate::program;
-use crate::settle_month::{arrival, compare, kept, printed, root, said, worked, Arrival, Outcome, REFUSALS};
+use crate::settle_month::{self, arrival, compare, printed, said, worked, Arrival, Outcome, REFUSALS};
 use crate::worked::{PAPER, STATEMENT};
 
 /// Files of each kind, of the statements' kinds and of the others.
@@ -95,17 +95,12 @@ fn spoken() -> Vec<(String, &'static str)> {
 
 /// Each file of examples/ with its statement, or its refusal.
 fn examples(count: &mut Count) {
-    let folder = root().join("examples");
-    let entries = std::fs::read_dir(&folder).unwrap_or_else(|why| panic!("{}: {}", folder.display(), why));
-    for path in entries.map(|entry| entry.expect("an entry of examples/").path()) {
-        if path.extension().is_some_and(|end| end == "mre") {
-            let (file, wanted) = (kept(&path), kept(path.with_extension("statement")));
-            for case in 0..6 {
-                let ours = printed(&file, arrival(case));
-                count.case(ours.as_ref() == Ok(&wanted), || format!("{}: {:?}", path.display(), ours));
-            }
-            count.tried("files of examples/, each by six arrivals");
+    for (path, file, wanted) in settle_month::examples() {
+        for case in 0..6 {
+            let ours = printed(&file, arrival(case));
+            count.case(ours.as_ref() == Ok(&wanted), || format!("{}: {:?}", path.display(), ours));
         }
+        count.tried("files of examples/, each by six arrivals");
     }
     count.reached("files of examples/, each by six arrivals", 4);
 }

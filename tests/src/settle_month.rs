@@ -190,3 +190,12 @@ pub fn kept(path: impl AsRef<Path>) -> Vec<u8> {
     let path = root().join(path);
     std::fs::read(&path).unwrap_or_else(|why| panic!("{}: {}", path.display(), why))
 }
+
+/// Each month file of examples/: its path, the file, and its statement, or its refusal.
+pub fn examples() -> Vec<(PathBuf, Vec<u8>, Vec<u8>)> {
+    let folder = root().join("examples");
+    let entries = std::fs::read_dir(&folder).unwrap_or_else(|why| panic!("{}: {}", folder.display(), why));
+    let paths = entries.map(|entry| entry.expect("an entry of examples/").path());
+    let files = paths.filter(|path| path.extension().is_some_and(|end| end == "mre"));
+    files.map(|path| (path.clone(), kept(&path), kept(path.with_extension("statement")))).collect()
+}

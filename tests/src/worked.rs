@@ -10,6 +10,10 @@ pub const PAPER: &str = "MRE,1,1,3,1300\nP,1,10,100,1000000,1000000\nP,1,11,50,1
 pub const STATEMENT: &str = "A,1,10,85,0,0,0,45,58500\nA,1,11,43,0,0,0,-23,-29900\nA,2,20,22,30,0,0,-22,-28600\n\
                              T,1,3,150,30,0,0,180\n";
 
+/// What m1, and so that example, allots to its three plants, and their nets.
+pub const ALLOTMENT: [u64; 12] = [85, 0, 0, 0, 43, 0, 0, 0, 22, 30, 0, 0];
+pub const NETS: [i64; 3] = [45, -23, -22];
+
 const NOTHING: [[u64; 4]; 4] = [[0; 4]; 4];
 
 /// One hour: Z, A, both tables, the allotment and the nets that it must give.
@@ -37,7 +41,8 @@ fn plant(submarket: u64, number: u64, guarantee: u64) -> Plant {
     Plant { submarket, number, guarantee, loss: 1_000_000, availability: 1_000_000 }
 }
 
-fn three(q1: u64, q2: u64, q3: u64) -> [Plant; 3] {
+/// 01's three plants, with these guarantees.
+pub fn three(q1: u64, q2: u64, q3: u64) -> [Plant; 3] {
     [plant(1, 10, q1), plant(1, 11, q2), plant(2, 20, q3)]
 }
 
@@ -54,8 +59,8 @@ fn three_plants(count: &mut Count) {
         guarantees: 210,
         cover_table: [[0, 22, 0, 0], [0; 4], [0; 4], [0; 4]],
         secondary_table: NOTHING,
-        allotment: &[85, 0, 0, 0, 43, 0, 0, 0, 22, 30, 0, 0],
-        nets: &[45, -23, -22],
+        allotment: &ALLOTMENT,
+        nets: &NETS,
     };
     // Submarket 1 is left 100 − 50 = 50 kWh, 20 of them cover plant 20; of the 30 then left it keeps 21 and sends 9.
     let m2 = Hour {
@@ -151,10 +156,9 @@ fn example(count: &mut Count) {
     let settled = Month { due: 2, ..opened };
     let hour =
         recorder::settle(end.month, &plants, &[180], &[130, 20, 30], &mut allotment, &mut allotted, &mut accounts);
-    let figures = [85, 0, 0, 0, 43, 0, 0, 0, 22, 30, 0, 0];
     let paid = [45, 58_500, -23, -29_900, -22, -28_600];
-    step(hour.number == 0 && hour.month == settled && allotment == figures, "settle");
-    step(allotted == figures && accounts == paid, "the ledger");
+    step(hour.number == 0 && hour.month == settled && allotment == ALLOTMENT, "settle");
+    step(allotted == ALLOTMENT && accounts == paid, "the ledger");
 
     let wanted = Sums { number: 0, month: settled, columns: [150, 30, 0, 0], net: 0, money: 0 };
     step(recorder::balance(hour.month, &allotted, &accounts) == wanted, "balance");

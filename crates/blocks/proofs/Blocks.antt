@@ -1,15 +1,16 @@
 -- Rows stand by submarket: sharing over a submarket's rows alone is sharing over its block. Assumes nothing.
 use mathlib.Core.Path.{_≡_, refl, sym, ap, ap₂, _∙_}
 use mathlib.Core.Bool.{true, false}
-use Prim.Native.Nat.{ℕ, zero, suc, _+_, _≤_, _<_}
+use Prim.Native.Nat.{ℕ, zero, suc, _+_, _≤_, _<_, zero-le}
 use native.Mathlib.Omega.{arith}
-use native.Mathlib.Nat.{suc-inj, add-zero, zero-add}
+use native.Mathlib.Nat.{suc-inj, le-of-eq, add-zero, zero-add}
 use mathlib.Core.List.{List, [], _∷_, _++_, append-nil, append-assoc}
 use lib.Dec.{eqb}
 use lib.Seq.{drop-drop}
 use Rattle.lists.specs.Columns.{rowwise, _⊕_, Below, joined, inside, within, at, totals}
 use Rattle.lists.specs.Lists.{sum}
-use Rattle.lists.proofs.Columns.{_!_, each, rowwise-append}
+use Rattle.lists.proofs.Columns.{_!_, each, rowwise-append, rowwise-nothing}
+use Rattle.lists.proofs.Rows.{at-replicate}
 use Rattle.lists.proofs.Sums.{sum-append, sum-zeros}
 use Rattle.sharing.specs.Laws.{Lawful}
 use Rattle.sharing.specs.Sharing.{Rule}
@@ -20,17 +21,8 @@ abbrev pub none : ℕ → List ℕ
 none n = replicate n 0
 
 -- ---- blocks
-⊕-nil : (xs : List ℕ) → xs ⊕ [] ≡ xs
-unfolding rowwise
-⊕-nil [] = refl
-⊕-nil (x ∷ xs) = ap₂ (λ a b. a ∷ b) (add-zero x) (⊕-nil xs)
-
 ⊕-none : (xs : List ℕ) (n : ℕ) → length xs ≡ n → xs ⊕ none n ≡ xs
-unfolding rowwise
-⊕-none [] zero e = refl
-⊕-none (x ∷ xs) (suc n) e = ap₂ (λ a b. a ∷ b) (add-zero x) (⊕-none xs n (suc-inj e))
-⊕-none [] (suc n) e = absurd (omega arith)
-⊕-none (x ∷ xs) zero e = absurd (omega arith)
+⊕-none xs n e = rowwise-nothing _+_ add-zero xs (none n) (le-of-eq (length-replicate n 0 ∙ sym e)) (λ i. at-replicate n i 0)
 
 none-⊕ : (xs : List ℕ) (n : ℕ) → length xs ≡ n → none n ⊕ xs ≡ xs
 unfolding rowwise
@@ -159,7 +151,7 @@ module _ {rule : Rule} (L : Lawful rule) (amounts w₁ w₂ w₃ w₄ : List ℕ
       ≡ rule (at 1 amounts 0) w₁ ++ (rule (at 2 amounts 0) w₂ ++ (rule (at 3 amounts 0) w₃ ++ rule (at 4 amounts 0) w₄))
   unfolding portion joined n₁ n₂ n₃ n₄
   portion-blocks =
-      (λ i. q₁ i ⊕ (q₂ i ⊕ (q₃ i ⊕ (⊕-nil _ ∙ q₄) i)))
+      (λ i. q₁ i ⊕ (q₂ i ⊕ (q₃ i ⊕ (rowwise-nothing _+_ add-zero _ [] zero-le (λ _. refl) ∙ q₄) i)))
       ∙ added (rule (at 1 amounts 0) w₁) (rule (at 2 amounts 0) w₂) (rule (at 3 amounts 0) w₃) (rule (at 4 amounts 0) w₄)
       (L .sized _ w₁) (L .sized _ w₂) (L .sized _ w₃) (L .sized _ w₄)
     where

@@ -7,25 +7,19 @@ use Prim.Native.Nat.{ℕ, _+_, _-_, _*_, _≤_, _<_}
 use native.Mathlib.Omega.{arith}
 use native.Mathlib.Decide.{ℕ-discrete, decLt}
 use lib.Dec.{eqb}
-use lib.ListN.{length, getD, take, set, length-take, length-set, List·getD-eq-default}
+use lib.ListN.{length, getD, take, set, length-set}
 use lib.Seq.{take-all, getD-take, getD-set-same, getD-set-other, ext-getD}
 use borrow.Author.Tests.{eq-eqb, ne-eqb}
 use borrow.Author.Needs.{needs}
 use mir.Syntax.{w64}
 use mir.Val.{Fits}
 use Rattle.lists.specs.Columns.{_⊖_, Below}
+use Rattle.lists.proofs.Parts.{past-take}
 use Rattle.lists.proofs.Columns.{_!_, at-⊖, cond-same, length-rowwise}
 use Rattle.blocks.specs.Blocks.{Raised, inColumn, Room}
 
 module _ {A : Type 0} (d : A) where
-  -- past what was taken of a list there is nothing
-  pub past-take : (n : ℕ) (l : List A) (k : ℕ) → n ≤ k → getD (take n l) k d ≡ d
-  past-take n l k h = List·getD-eq-default (take n l) d (let e = length-take n l in omega arith)
-
-  -- one more is taken: it, and what was there
-  pub next-here : (l : List A) (i : ℕ) → getD (take (i + 1) l) i d ≡ getD l i d
-  next-here l i = getD-take (i + 1) l i d (omega arith)
-
+  -- one more is taken: what was there
   pub next-there : (l : List A) (i k : ℕ) → (k ≡ i → ⊥) → getD (take (i + 1) l) k d ≡ getD (take i l) k d
   next-there l i k ne = by-cases (decLt k i) below (λ h. above (omega arith))
     where
@@ -33,11 +27,15 @@ module _ {A : Type 0} (d : A) where
       below h = getD-take (i + 1) l k d (omega arith) ∙ sym (getD-take i l k d h)
 
       above : i ≤ k → getD (take (i + 1) l) k d ≡ getD (take i l) k d
-      above h = past-take (i + 1) l k (omega arith) ∙ sym (past-take i l k h)
+      above h = past-take d (i + 1) l k (omega arith) ∙ sym (past-take d i l k h)
 
 -- a row without a part raises no figure
 pub no-rise : (column : ℕ) (parts : List ℕ) (i j : ℕ) → parts ! i ≡ 0 → inColumn column parts i j ≡ 0
 no-rise column parts i j e = rw e (cond-same (eqb j column))
+
+-- nothing rises
+pub raise-nothing : {rise : ℕ → ℕ → ℕ} {figures : List ℕ} → ((i j : ℕ) → rise i j ≡ 0) → Raised rise figures figures
+raise-nothing z = record { same = refl; by = λ i j h. let a = z i j in omega arith }
 
 -- a store that adds to one figure
 pub raised-set : (f h : ℕ → ℕ → ℕ) {before after : List ℕ} {at v : ℕ} (x : ℕ) → Raised f before after → at < length after → v ≡ after ! at + x
@@ -71,7 +69,7 @@ module _ {column : ℕ} {part want₀ figures₀ : List ℕ} where
         turns = omega arith;
         same = refl;
         falls = λ k. omega arith;
-        rises = record { same = refl; by = λ i j h. let e = no-rise column [] i j refl in omega arith };
+        rises = raise-nothing (λ i j. no-rise column [] i j refl);
       }
 
   pub handing-more : {want figures : List ℕ} {i : ℕ} → Handing column part want₀ figures₀ want figures i → i < length part
@@ -91,7 +89,7 @@ module _ {column : ℕ} {part want₀ figures₀ : List ℕ} where
       hit : (m : ℕ) → m ≡ i → set want i (want ! i - part ! i) ! m ≡ want₀ ! m - take (i + 1) part ! m
       hit m e =
           rw e (getD-set-same want i (want ! i - part ! i) 0 (let s = k .same in omega arith)
-          ∙ (let a = k .falls i in let b = past-take 0 i part i (omega arith) in let c = next-here 0 part i in omega arith))
+          ∙ (let a = k .falls i in let b = past-take 0 i part i (omega arith) in let c = getD-take (i + 1) part i 0 (omega arith) in omega arith))
 
       miss : (m : ℕ) → (m ≡ i → ⊥) → set want i (want ! i - part ! i) ! m ≡ want₀ ! m - take (i + 1) part ! m
       miss m e = getD-set-other want i m (want ! i - part ! i) 0 e ∙ k .falls m ∙ ap (λ x. want₀ ! m - x) (sym (next-there 0 part i m e))
@@ -100,7 +98,7 @@ module _ {column : ℕ} {part want₀ figures₀ : List ℕ} where
       on a j l e =
           let p : a ≡ i = omega arith in
           let q : j ≡ column = omega arith in
-          rw (eq-eqb j column q, p) (let x = past-take 0 i part i (omega arith) in let y = next-here 0 part i in omega arith)
+          rw (eq-eqb j column q, p) (let x = past-take 0 i part i (omega arith) in let y = getD-take (i + 1) part i 0 (omega arith) in omega arith)
 
       off : (a j : ℕ) → j < 4 → (4 * a + j ≡ 4 * i + column → ⊥) → inColumn column (take (i + 1) part) a j ≡ inColumn column (take i part) a j
       off a j l e = by-cases (ℕ-discrete j column) other same-row
@@ -124,18 +122,15 @@ module _ {column : ℕ} {part want₀ figures₀ : List ℕ} where
       record { fits = omega arith }
 
   -- at the end
-  whole : {want figures : List ℕ} {i : ℕ} → Handing column part want₀ figures₀ want figures i → length part ≤ i → take i part ≡ part
-  whole {i = i} k h = take-all i part h
-
   pub handed : {want figures : List ℕ} {i : ℕ} → Handing column part want₀ figures₀ want figures i → length part ≤ i → length part ≤ length want₀
       → want ≡ want₀ ⊖ part
   handed {want} {i = i} k h rows =
       ext-getD 0 want (want₀ ⊖ part)
       (k .same ∙ (let a = length-rowwise _-_ 0 0 want₀ part in omega arith))
-      (λ m _. k .falls m ∙ ap (λ l. want₀ ! m - l ! m) (whole k h) ∙ sym (at-⊖ want₀ part m))
+      (λ m _. k .falls m ∙ ap (λ l. want₀ ! m - l ! m) (take-all i part h) ∙ sym (at-⊖ want₀ part m))
 
   pub handed-raised : {want figures : List ℕ} {i : ℕ} → Handing column part want₀ figures₀ want figures i → length part ≤ i
       → Raised (inColumn column part) figures₀ figures
-  handed-raised {figures = figures} k h = subst (λ l. Raised (inColumn column l) figures₀ figures) (whole k h) (k .rises)
+  handed-raised {figures = figures} {i = i} k h = subst (λ l. Raised (inColumn column l) figures₀ figures) (take-all i part h) (k .rises)
 
 pub ruleset handings = (handing, handing-more, handing-part, handing-room, handed, handed-raised, needs)

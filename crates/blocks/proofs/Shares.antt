@@ -1,10 +1,10 @@
 -- Sharing over a block, and over the four blocks one after the other. Assumes nothing.
-use mathlib.Core.Path.{_≡_, refl, sym, ap, ap₂, _∙_, subst}
+use mathlib.Core.Path.{_≡_, sym, ap, ap₂, _∙_, subst}
 use mathlib.Core.Bool.{cond}
 use mathlib.Core.Logic.{by-cases}
 use mathlib.Core.List.{List, [], _++_, append-nil}
 use Prim.Native.Nat.{ℕ, _+_, _-_, _*_, _≤_, _<_}
-use native.Mathlib.Nat.{le-of-eq, le-refl, add-sub-cancel}
+use native.Mathlib.Nat.{le-of-eq, le-refl, sub-zero, add-sub-cancel}
 use native.Mathlib.Omega.{arith}
 use native.Mathlib.Decide.{decLt}
 use lib.Dec.{eqb}
@@ -14,24 +14,14 @@ use mir.Syntax.{w64}
 use mir.Val.{Fits}
 use Rattle.lists.specs.Lists.{sum}
 use Rattle.lists.specs.Columns.{_⊖_, Below}
-use Rattle.lists.proofs.Parts.{part-at, take-le}
+use Rattle.lists.proofs.Parts.{part-at, part-back, take-le, past-take}
 use Rattle.lists.proofs.Rows.{at-replicate}
-use Rattle.lists.proofs.Columns.{_!_, at-⊖, sum-tight, length-rowwise}
+use Rattle.lists.proofs.Columns.{_!_, at-⊖, sum-tight, length-rowwise, rowwise-nothing}
 use Rattle.sharing.specs.Sharing.{share}
 use Rattle.sharing.proofs.Sharing.{share-lawful, adds-le}
 use Rattle.blocks.specs.Blocks.{standingAt, Rising, Raised, inColumn, inColumns, Room}
 use Rattle.blocks.proofs.Slices.{block, end-below, row-in}
-use Rattle.blocks.proofs.Handed.{past-take, no-rise}
-
--- ---- parts of zero change nothing
-pub fall-nothing : (xs ps : List ℕ) → length ps ≤ length xs → ((i : ℕ) → ps ! i ≡ 0) → xs ≡ xs ⊖ ps
-fall-nothing xs ps l z =
-    ext-getD 0 xs (xs ⊖ ps) (let a = length-rowwise _-_ 0 0 xs ps in omega arith)
-    (λ i _. let a = at-⊖ xs ps i in let b = z i in omega arith)
-
-pub raise-nothing : (column : ℕ) (ps figures : List ℕ) → ((i : ℕ) → ps ! i ≡ 0) → Raised (inColumn column ps) figures figures
-raise-nothing column ps figures z =
-    record { same = refl; by = λ i j h. let a = no-rise column ps i j (z i) in omega arith }
+use Rattle.blocks.proofs.Handed.{no-rise, raise-nothing}
 
 module _ (n : ℕ) (want : List ℕ) (short : n ≤ length want) where
   pub parts-length : (t : ℕ) → length (share t (take n want)) ≡ n
@@ -93,11 +83,7 @@ slice-at : (a e : ℕ) (p : List ℕ) (i : ℕ) → a ≤ e → a ≤ i → take
 slice-at a e p i h low = by-cases (decLt i e) below (λ h. above (omega arith))
   where
     below : i < e → take (e - a) (drop a p) ! (i - a) ≡ take e p ! i
-    below u =
-        part-at (e - a) a p (i - a) 0 (omega arith) ∙ ap (λ (k : ℕ). p ! k) back ∙ sym (getD-take e p i 0 u)
-      where
-        back : a + (i - a) ≡ i
-        back = omega arith
+    below u = part-back a e p i 0 low u ∙ sym (getD-take e p i 0 u)
 
     above : e ≤ i → take (e - a) (drop a p) ! (i - a) ≡ take e p ! i
     above u = past-take 0 (e - a) (drop a p) (i - a) (omega arith) ∙ sym (past-take 0 e p i u)
@@ -107,8 +93,8 @@ module _ {starts columns p want₀ figures₀ : List ℕ} (up : Rising starts (l
   blocked =
       record {
         turns = omega arith;
-        falls = fall-nothing want₀ (take (getD starts 0 0) p) (let a = length-take (getD starts 0 0) p in let b = up .first in omega arith) none;
-        rises = record { same = refl; by = λ i j h. let a = no-rise (getD columns (standingAt starts ! i - 1) 0) (take (getD starts 0 0) p) i j (none i) in omega arith };
+        falls = sym (rowwise-nothing _-_ sub-zero want₀ (take (getD starts 0 0) p) (let a = length-take (getD starts 0 0) p in let b = up .first in omega arith) none);
+        rises = raise-nothing (λ i j. no-rise (getD columns (standingAt starts ! i - 1) 0) (take (getD starts 0 0) p) i j (none i));
       }
     where
       none : (i : ℕ) → take (getD starts 0 0) p ! i ≡ 0
@@ -150,7 +136,7 @@ module _ {starts columns p want₀ figures₀ : List ℕ} (up : Rising starts (l
         new-want : List ℕ
         new-want = take a want ++ (x ++ drop (length want - a) (drop a want))
 
-        length-x : length x ≡ length want - a
+        length-x : length x ≡ length (take (length want - a) (drop a want))
         unfolding a e
         length-x =
             ap length is
@@ -183,8 +169,8 @@ module _ {starts columns p want₀ figures₀ : List ℕ} (up : Rising starts (l
         unfolding new-want
         new-falls =
             ext-getD 0 new-want (want₀ ⊖ take e p)
-            (simp (length-append, length-take, length-drop)
-            (let b = length-rowwise _-_ 0 0 want₀ (take e p) in let c = length-take e p in let d = length-x in let m = inside in let n = a≤e in let o = same-want in omega arith))
+            (let m = inside in let n = a≤e in let o = same-want in
+            tail-length want x a (omega arith) length-x ∙ (let b = length-rowwise _-_ 0 0 want₀ (take e p) in let c = length-take e p in omega arith))
             (λ i _. falls-at i ∙ sym (at-⊖ want₀ (take e p) i))
 
       module _ (y : List ℕ)
@@ -237,7 +223,7 @@ module _ {starts columns p want₀ figures₀ : List ℕ} (up : Rising starts (l
         unfolding new-figures
         new-rises =
             record {
-              same = simp (length-append, length-take, length-drop) (let b = r .same in let c = length-take (length figures - 4 * a) (drop (4 * a) figures) in let d = length-drop (4 * a) figures in let f = far in let g = k .rises .same in omega arith);
+              same = tail-length figures y (4 * a) far (r .same) ∙ k .rises .same;
               by = rises-at;
             }
 

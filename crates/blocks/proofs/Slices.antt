@@ -1,5 +1,5 @@
 -- Rows whose blocks start at given rows: what sharing, sums and submarkets are on the rows of one block. Assumes nothing.
-use mathlib.Core.Path.{_≡_, refl, sym, ap, ap₂, _∙_, subst}
+use mathlib.Core.Path.{_≡_, refl, sym, ap, ap₂, _∙_}
 use mathlib.Core.Logic.{by-cases}
 use mathlib.Core.List.{List, [], _∷_, _++_}
 use Prim.Native.Nat.{ℕ, zero, suc, _+_, _-_, _≤_, _<_}
@@ -9,24 +9,19 @@ use lib.ListN.{length, getD, take, drop, replicate, length-append, length-take, 
 use lib.Seq.{take-all, take-length, take-append-seam, drop-append-seam, drop-append-add}
 use Rattle.lists.specs.Lists.{sum}
 use Rattle.lists.specs.Columns.{Below, totals}
-use Rattle.lists.proofs.Columns.{_!_, below-four}
-use Rattle.lists.proofs.Parts.{part-at}
+use Rattle.lists.proofs.Columns.{_!_, at-map-sum, below-four}
+use Rattle.lists.proofs.Parts.{part-back}
+use Rattle.lists.proofs.Sums.{getD-table}
 use Rattle.sharing.specs.Laws.{Lawful}
 use Rattle.sharing.specs.Sharing.{Rule}
 use Rattle.blocks.specs.Portion.{portion}
 use Rattle.blocks.specs.Blocks.{blockRows, standingAt, Rising}
+use Rattle.blocks.proofs.Portion.{portion-sized}
 use Rattle.blocks.proofs.Blocks.{Blocks, cut₁, cut₂, cut₃, cut₄, totals-rows, portion-rows}
 
 -- the rows of block s, counted from 0
 abbrev pub block : List ℕ → List ℕ → ℕ → List ℕ
 block starts l s = take (getD starts (s + 1) 0 - getD starts s 0) (drop (getD starts s 0) l)
-
--- what holds of each figure of two lists holds of each of both, one behind the other
-all-append : (P : ℕ → Type 0) (x y : List ℕ) → ((i : ℕ) → i < length x → P (x ! i)) → ((i : ℕ) → i < length y → P (y ! i))
-    → (i : ℕ) → i < length (x ++ y) → P ((x ++ y) ! i)
-all-append P [] y f h i l = h i l
-all-append P (t ∷ x) y f h zero l = f 0 (omega arith)
-all-append P (t ∷ x) y f h (suc i) l = all-append P x y (λ i k. f (suc i) (omega arith)) h i (omega arith)
 
 module _ (starts : List ℕ) (n : ℕ) (up : Rising starts n) where
   b : ℕ
@@ -60,29 +55,12 @@ module _ (starts : List ℕ) (n : ℕ) (up : Rising starts n) where
   unfolding standingAt b c d
   standing-length = let k = know in simp (length-append, length-replicate) (omega arith)
 
-  -- the submarkets are 1 to 4
+  -- a part for each row
+  pub portion-length : {rule : Rule} → Lawful rule → (amounts ws : List ℕ) → length ws ≡ n → length (portion rule (standingAt starts) amounts ws) ≡ n
+  portion-length L amounts ws e = portion-sized L (standingAt starts) amounts ws ∙ (let a = standing-length in omega arith)
+
   abbrev rows : ℕ → List ℕ
   rows s = replicate (blockRows starts s) s
-
-  abbrev OneToFour : ℕ → Type 0
-  OneToFour t = (1 ≤ t) × (t ≤ 4)
-
-  pub standing-in : (i : ℕ) → i < n → (1 ≤ standingAt starts ! i) × (standingAt starts ! i ≤ 4)
-  unfolding standingAt
-  standing-in i h =
-      join (rows 1) (rows 2 ++ (rows 3 ++ rows 4)) (own 1 (omega arith)) (join (rows 2) (rows 3 ++ rows 4) (own 2 (omega arith)) (join (rows 3) (rows 4) (own 3 (omega arith)) (own 4 (omega arith)))) i
-      (let a = standing-length in omega arith)
-    where
-      join : (x y : List ℕ) → ((i : ℕ) → i < length x → OneToFour (x ! i)) → ((i : ℕ) → i < length y → OneToFour (y ! i)) → (i : ℕ) → i < length (x ++ y) → OneToFour ((x ++ y) ! i)
-      join = all-append OneToFour
-
-      own : (s : ℕ) → OneToFour s → (i : ℕ) → i < length (rows s) → OneToFour (rows s ! i)
-      own s h i l = subst OneToFour (sym (getD-replicate (blockRows starts s) i s 0 (let a = length-replicate (blockRows starts s) s in omega arith))) h
-
-  pub standing-le : (i : ℕ) → standingAt starts ! i ≤ 4
-  standing-le i =
-      by-cases (decLt i n) (λ h. standing-in i h .1)
-      (λ h. let a : standingAt starts ! i ≡ 0 = List·getD-eq-default (standingAt starts) 0 (let b = standing-length in omega arith) in omega arith)
 
   pub end-below : (s : ℕ) → s < 4 → getD starts (s + 1) 0 ≤ n
   unfolding b c d
@@ -118,19 +96,11 @@ module _ (starts : List ℕ) (n : ℕ) (up : Rising starts n) where
         e = let k = know in omega arith
     pieces (suc (suc (suc (suc m)))) h = absurd (omega arith)
 
-  -- a figure of a block's row
-  pub in-block : (l : List ℕ) (s i : ℕ) → getD starts s 0 ≤ i → i < getD starts (s + 1) 0 → l ! i ≡ block starts l s ! (i - getD starts s 0)
-  in-block l s i low high =
-      let a : ℕ = getD starts s 0 in
-      let m : ℕ = getD starts (s + 1) 0 - a in
-      let e : i ≡ a + (i - a) = omega arith in
-      ap (λ (k : ℕ). l ! k) e ∙ sym (part-at m a l (i - a) 0 (omega arith))
-
   -- the submarket of a block's row
   pub row-in : (s i : ℕ) → s < 4 → getD starts s 0 ≤ i → i < getD starts (s + 1) 0 → standingAt starts ! i ≡ s + 1
   unfolding standingAt
   row-in s i h low high =
-      in-block (standingAt starts) s i low high ∙ ap (λ l. l ! (i - getD starts s 0)) (are s h)
+      sym (part-back (getD starts s 0) (getD starts (s + 1) 0) (standingAt starts) i 0 low high) ∙ ap (λ l. l ! (i - getD starts s 0)) (are s h)
       ∙ same s h (i - getD starts s 0) (omega arith)
     where
       are : (s : ℕ) → s < 4 → block starts (standingAt starts) s ≡ getD (rows 1 ∷ rows 2 ∷ rows 3 ∷ rows 4 ∷ []) s []
@@ -142,12 +112,32 @@ module _ (starts : List ℕ) (n : ℕ) (up : Rising starts n) where
           (λ i u. getD-replicate (blockRows starts 1) i 1 0 u) (λ i u. getD-replicate (blockRows starts 2) i 2 0 u)
           (λ i u. getD-replicate (blockRows starts 3) i 3 0 u) (λ i u. getD-replicate (blockRows starts 4) i 4 0 u)
 
+  -- the submarkets are 1 to 4
+  pub standing-in : (i : ℕ) → i < n → (1 ≤ standingAt starts ! i) × (standingAt starts ! i ≤ 4)
+  unfolding b c d
+  standing-in i h =
+      let k = know in
+      by-cases (decLt i b) (λ l. at 0 (omega arith) (omega arith) l) (λ l.
+      by-cases (decLt i c) (λ m. at 1 (omega arith) (omega arith) m) (λ m.
+      by-cases (decLt i d) (λ o. at 2 (omega arith) (omega arith) o) (λ o. at 3 (omega arith) (omega arith) (omega arith))))
+    where
+      at : (s : ℕ) → s < 4 → getD starts s 0 ≤ i → i < getD starts (s + 1) 0 → (1 ≤ standingAt starts ! i) × (standingAt starts ! i ≤ 4)
+      at s l low high = let e = row-in s i l low high in (omega arith, omega arith)
+
+  pub standing-le : (i : ℕ) → standingAt starts ! i ≤ 4
+  standing-le i =
+      by-cases (decLt i n) (λ h. standing-in i h .1)
+      (λ h. let a : standingAt starts ! i ≡ 0 = List·getD-eq-default (standingAt starts) 0 (let b = standing-length in omega arith) in omega arith)
+
   module _ (ws : List ℕ) (sized : length ws ≡ n) where
     same : length ws ≡ length (standingAt starts)
     same = sized ∙ sym standing-length
 
+    abbrev cuts : List (List ℕ)
+    cuts = cut₁ in-blocks ws same ∷ cut₂ in-blocks ws same ∷ cut₃ in-blocks ws same ∷ cut₄ in-blocks ws same ∷ []
+
     -- the cuts at the blocks are the blocks
-    cut : (s : ℕ) → s < 4 → getD (cut₁ in-blocks ws same ∷ cut₂ in-blocks ws same ∷ cut₃ in-blocks ws same ∷ cut₄ in-blocks ws same ∷ []) s [] ≡ block starts ws s
+    cut : (s : ℕ) → s < 4 → getD cuts s [] ≡ block starts ws s
     unfolding b c d in-blocks cut₁ cut₂ cut₃ cut₄
     cut zero h = ap (λ (k : ℕ). take (blockRows starts 1) (drop k ws)) (sym (know .at0))
     cut (suc zero) h = ap (λ (k : ℕ). take (blockRows starts 2) (drop k ws)) e
@@ -173,28 +163,17 @@ module _ (starts : List ℕ) (n : ℕ) (up : Rising starts n) where
 
     -- the sum of a submarket is that of its block, and its amount is shared over its block
     pub total-block : (s : ℕ) → s < 4 → totals (standingAt starts) ws ! s ≡ sum (block starts ws s)
-    total-block s h = ap (λ l. l ! s) (totals-rows in-blocks ws same) ∙ go s h ∙ ap sum (cut s h)
-      where
-        go : (s : ℕ) → s < 4
-            → (sum (cut₁ in-blocks ws same) ∷ sum (cut₂ in-blocks ws same) ∷ sum (cut₃ in-blocks ws same) ∷ sum (cut₄ in-blocks ws same) ∷ []) ! s
-            ≡ sum (getD (cut₁ in-blocks ws same ∷ cut₂ in-blocks ws same ∷ cut₃ in-blocks ws same ∷ cut₄ in-blocks ws same ∷ []) s [])
-        go = below-four _ refl refl refl refl
+    total-block s h = ap (λ l. l ! s) (totals-rows in-blocks ws same) ∙ at-map-sum cuts s ∙ ap sum (cut s h)
 
     module _ {rule : Rule} (L : Lawful rule) (amounts : List ℕ) (fits : Below amounts (totals (standingAt starts) ws)) where
       pub portion-block : (s : ℕ) → s < 4 → block starts (portion rule (standingAt starts) amounts ws) s ≡ rule (amounts ! s) (block starts ws s)
       portion-block s h =
           ap (λ l. block starts l s) (portion-rows in-blocks ws same L amounts fits)
           ∙ pieces (x 0) (x 1) (x 2) (x 3) (long 0 (omega arith)) (long 1 (omega arith)) (long 2 (omega arith)) (long 3 (omega arith)) s h
-          ∙ go s h ∙ ap (rule (amounts ! s)) (cut s h)
+          ∙ getD-table x 4 s [] h ∙ ap (rule (amounts ! s)) (cut s h)
         where
-          ws′ : ℕ → List ℕ
-          ws′ s = getD (cut₁ in-blocks ws same ∷ cut₂ in-blocks ws same ∷ cut₃ in-blocks ws same ∷ cut₄ in-blocks ws same ∷ []) s []
-
           x : ℕ → List ℕ
-          x s = rule (amounts ! s) (ws′ s)
+          x s = rule (amounts ! s) (getD cuts s [])
 
           long : (s : ℕ) → s < 4 → length (x s) ≡ getD starts (s + 1) 0 - getD starts s 0
-          long s h = L .sized (amounts ! s) (ws′ s) ∙ ap length (cut s h) ∙ block-length s h
-
-          go : (s : ℕ) → s < 4 → getD (x 0 ∷ x 1 ∷ x 2 ∷ x 3 ∷ []) s [] ≡ x s
-          go = below-four (λ s. getD (x 0 ∷ x 1 ∷ x 2 ∷ x 3 ∷ []) s [] ≡ x s) refl refl refl refl
+          long s h = L .sized (amounts ! s) (getD cuts s []) ∙ ap length (cut s h) ∙ block-length s h

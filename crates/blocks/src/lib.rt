@@ -93,7 +93,7 @@ fn block_sum(starts: [usize; 5], s: usize, figures: &[u64]) -> u64
 {
     let a = starts[s];
     let e = starts[s + 1];
-    sharing::weights_total(&figures[a..e])
+    lists::sum_of(&figures[a..e])
 }
 
 // The sums of the submarkets' rows.

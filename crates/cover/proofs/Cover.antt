@@ -1,17 +1,17 @@
 -- Steps 4 to 7 for any lawful rule of sharing: what four submarkets have meets what the plants want. Assumes nothing.
-use mathlib.Core.Path.{_≡_, refl, sym, ap, _∙_, subst}
+use mathlib.Core.Path.{_≡_, refl, sym, ap, _∙_}
 use Prim.Native.Nat.{ℕ, zero, suc, _+_, _-_, min, _≤_}
 use native.Mathlib.Omega.{arith}
 use native.Mathlib.Nat.{le-of-eq}
 use mathlib.Core.List.{List, [], _∷_, map}
 use lib.ListN.{length, getD, length-map, List·getD-map}
-use Rattle.lists.specs.Columns.{_⊖_, _⊓_, Below, joined, inside, within, at, totals, transpose}
+use Rattle.lists.specs.Columns.{_⊖_, _⊓_, Below, joined, inside, within, at, totals}
 use Rattle.lists.specs.Lists.{sum, most}
-use Rattle.lists.proofs.Columns.{_!_, length-rowwise, at-⊕, at-⊖, at-⊓, sum-⊖, sum-ext, sum-tight, sum-joined, at-map-sum, joined-four, at-within, transpose-at, transpose-sum, within-nil, within-joined, Sited, sited-le, totals-sum, totals-ext, totals-is, at-totals, at-joined}
+use Rattle.lists.proofs.Columns.{_!_, length-rowwise, at-⊕, at-⊖, at-⊓, sum-⊖, below-⊖, min-left, min-right, below-⊕, sum-ext, sum-tight, sum-joined, at-map-sum, joined-four, joined-at, at-within, transpose-sum, within-nil, within-joined, Sited, sited-le, totals-sum, totals-ext, totals-is, at-totals, at-joined, getD-map, getD-transpose}
 use Rattle.lists.proofs.Sums.{at-le-sum}
 use Rattle.lists.proofs.Questions.{every-all, at-most-all}
 use Rattle.sharing.specs.Laws.{Lawful}
-use Rattle.transfer.specs.Laws.{rowSum, Served}
+use Rattle.transfer.specs.Laws.{rowSum, columnSum, Served}
 use Rattle.sharing.specs.Sharing.{Rule}
 use Rattle.transfer.specs.Transfer.{serve, transfer}
 use Rattle.transfer.specs.Calls.{apart}
@@ -34,12 +34,12 @@ at-supplied rule subs have want s i =
 -- of what the givers sent: the first row, and the others once it is served
 module _ (row : List ℕ) (rows : List (List ℕ)) (need : List ℕ) (sent : SentWithin (row ∷ rows) need) where
   pub sent-first : Below row need
-  unfolding sum
-  sent-first s = let a = sent s in omega arith
+  unfolding joined
+  sent-first s = let a = sent s in let b = at-⊕ row (joined rows) s in omega arith
 
   pub sent-then : SentWithin rows (need ⊖ row)
-  unfolding sum
-  sent-then s = let a = sent s in let b = at-⊖ need row s in omega arith
+  unfolding joined
+  sent-then s = let a = sent s in let b = at-⊕ row (joined rows) s in let c = at-⊖ need row s in omega arith
 
 module _ {rule : Rule} (L : Lawful rule) where
   module _ (subs : List ℕ) where
@@ -58,7 +58,7 @@ module _ {rule : Rule} (L : Lawful rule) where
 
     pub own-fits : (have want : List ℕ) → Below (own rule subs have want) (totals subs want)
     unfolding own
-    own-fits have want j = let a = at-⊓ have (totals subs want) j in omega arith
+    own-fits have want = min-right have (totals subs want)
 
     pub own-under : (have want : List ℕ) → Below (ownParts rule subs have want) want
     unfolding ownParts
@@ -77,30 +77,21 @@ module _ {rule : Rule} (L : Lawful rule) where
         ∙ (let a = length-rowwise (inside s) 0 0 subs (ownParts rule subs have want) in let b = own-sized have want h in let c = got-sized have want (s - 1) h in omega arith)
 
     -- the rows of a table, giver by giver, spread over the plants
-    module _ (row : List ℕ) (rows : List (List ℕ)) (ws : List ℕ) (sent : SentWithin (row ∷ rows) (totals subs ws)) where
-      fits : Below row (totals subs ws)
-      fits = sent-first row rows (totals subs ws) sent
-
-      still-sent : SentWithin rows (totals subs (ws ⊖ portion rule subs row ws))
-      still-sent s =
-          let a = sent-then row rows (totals subs ws) sent s in let b = at-⊖ (totals subs ws) row s in let c = at-fall L subs row ws fits s in omega arith
+    still-sent : (row : List ℕ) (rows : List (List ℕ)) (ws : List ℕ) → SentWithin (row ∷ rows) (totals subs ws) → SentWithin rows (totals subs (ws ⊖ portion rule subs row ws))
+    still-sent row rows ws sent s =
+        let a = sent-then row rows (totals subs ws) sent s in let b = at-⊖ (totals subs ws) row s in let c = at-fall L subs row ws (sent-first row rows (totals subs ws) sent) s in omega arith
 
     spread-under : (rows : List (List ℕ)) (ws : List ℕ) → SentWithin rows (totals subs ws) → Below (joined (serve (portion rule subs) ws rows)) ws
     unfolding serve joined
-    spread-under [] ws sent i = omega arith
-    spread-under (row ∷ rows) ws sent i =
-        let p = portion rule subs row ws in
-        let k = spread-under rows (ws ⊖ p) (still-sent row rows ws sent) i in
-        let a = at-⊕ p (joined (serve (portion rule subs) (ws ⊖ p) rows)) i in
-        let b = at-⊖ ws p i in
-        let c = portion-under L subs row ws (fits row rows ws sent) i in
-        omega arith
+    spread-under [] ws sent = λ i. omega arith
+    spread-under (row ∷ rows) ws sent =
+        let p = portion rule subs row ws in below-⊕ p _ ws (portion-under L subs row ws (sent-first row rows (totals subs ws) sent)) (spread-under rows (ws ⊖ p) (still-sent row rows ws sent))
 
     spread-adds : (rows : List (List ℕ)) (ws : List ℕ) → SentWithin rows (totals subs ws) → (g s : ℕ) → 1 ≤ s → s ≤ 4
         → sum (within s subs (getD (serve (portion rule subs) ws rows) g [])) ≡ at s (getD rows g []) 0
     unfolding serve
     spread-adds [] ws sent g s l h = within-nil s subs
-    spread-adds (row ∷ rows) ws sent zero s l h = portion-adds L subs row ws (fits row rows ws sent) s l h
+    spread-adds (row ∷ rows) ws sent zero s l h = portion-adds L subs row ws (sent-first row rows (totals subs ws) sent) s l h
     spread-adds (row ∷ rows) ws sent (suc g) s l h = spread-adds rows (ws ⊖ portion rule subs row ws) (still-sent row rows ws sent) g s l h
 
 -- What steps 4 to 6 come to
@@ -142,12 +133,12 @@ module _ {rule : Rule} (L : Lawful rule) (subs have want : List ℕ) (four-have 
   at-open j = at-⊖ need (own rule subs have want) j
 
   sum-left : sum left + sum (own rule subs have want) ≡ sum have
-  unfolding left
-  sum-left = sum-⊖ have (own rule subs have want) (λ j. let a = at-own j in omega arith)
+  unfolding left own
+  sum-left = sum-⊖ have (own rule subs have want) (min-left have (totals subs want))
 
   sum-open : sum open′ + sum (own rule subs have want) ≡ sum want
   unfolding open′ need
-  sum-open = sum-⊖ need (own rule subs have want) (λ j. let a = at-own j in omega arith) ∙ totals-sum subs want sited
+  sum-open = sum-⊖ need (own rule subs have want) (own-fits L subs have want) ∙ totals-sum subs want sited
 
   fit-cols : sum open′ ≤ sum left
   fit-cols = let a = sum-left in let b = sum-open in omega arith
@@ -156,12 +147,9 @@ module _ {rule : Rule} (L : Lawful rule) (subs have want : List ℕ) (four-have 
   promised : Served rule left open′
   promised = served L left open′ fit-cols
 
-  pub sent-is : (r : ℕ) → sum (map (λ g. g ! r) (table rule subs have want)) ≡ (totals subs want ⊖ own rule subs have want) ! r
+  pub sent-is : (r : ℕ) → columnSum (table rule subs have want) r ≡ (totals subs want ⊖ own rule subs have want) ! r
   unfolding table left open′ need
-  sent-is r =
-      sum-ext (map (λ g. g ! r) (table rule subs have want)) (getD (transpose 0 (table rule subs have want)) r [])
-      (λ g. List·getD-map (λ g. g ! r) (table rule subs have want) g [] ∙ sym (transpose-at (table rule subs have want) r g))
-      ∙ promised .received r
+  sent-is = promised .received
 
   given : (g : ℕ) → sum (getD (table rule subs have want) g []) ≤ left ! g
   unfolding table left open′ need
@@ -225,7 +213,7 @@ module _ {rule : Rule} (L : Lawful rule) (subs have want : List ℕ) (four-have 
   -- the plants' wants are filled
   still-le : Below still want
   unfolding still
-  still-le i = let a = at-⊖ want (ownParts rule subs have want) i in omega arith
+  still-le = below-⊖ want (ownParts rule subs have want)
 
   got-within : (s : ℕ) → 1 ≤ s → s ≤ 4 → sum (within s subs (joined (got rule subs have want))) ≡ sum (within s subs still)
   unfolding open′ need
@@ -233,10 +221,9 @@ module _ {rule : Rule} (L : Lawful rule) (subs have want : List ℕ) (four-have 
       within-joined s subs (got rule subs have want)
       ∙ sum-ext (map (λ c. sum (within s subs c)) (got rule subs have want)) (map (λ r. at s r 0) (table rule subs have want))
       (λ g.
-      subst (λ d. getD (map (λ c. sum (within s subs c)) (got rule subs have want)) g d ≡ sum (within s subs (getD (got rule subs have want) g [])))
-      (within-nil s subs) (List·getD-map (λ c. sum (within s subs c)) (got rule subs have want) g [])
+      getD-map (λ c. sum (within s subs c)) [] (within-nil s subs) (got rule subs have want) g
       ∙ got-adds g s l h ∙ sym (List·getD-map (λ r. at s r 0) (table rule subs have want) g []))
-      ∙ sent-is (s - 1) ∙ sym (still-open (s - 1)) ∙ at-totals subs still s l h
+      ∙ joined-at (table rule subs have want) (s - 1) ∙ sent-is (s - 1) ∙ sym (still-open (s - 1)) ∙ at-totals subs still s l h
 
   got-sum : sum (joined (got rule subs have want)) ≡ sum still
   got-sum =
@@ -259,7 +246,7 @@ module _ {rule : Rule} (L : Lawful rule) (subs have want : List ℕ) (four-have 
   unfolding table transfer left open′ need
   row-is g =
       sym (transpose-sum cols g ∙ joined-four cols (length-serve rule left open′ ∙ four-open) g
-      ∙ (let a = transpose-at cols g 0 in let b = transpose-at cols g 1 in let c = transpose-at cols g 2 in let d = transpose-at cols g 3 in omega arith))
+      ∙ (let a = getD-transpose 0 cols g 0 in let b = getD-transpose 0 cols g 1 in let c = getD-transpose 0 cols g 2 in let d = getD-transpose 0 cols g 3 in omega arith))
     where
       cols : List (List ℕ)
       cols = serve rule left open′
@@ -296,7 +283,7 @@ module _ {rule : Rule} (L : Lawful rule) (subs have want : List ℕ) (four-have 
       let T = table rule subs have want in
       let a = sum-⊖ left (map sum T) (λ j. let p = at-map-sum T j in let q = given j in omega arith) in
       let b = sum-joined T in
-      let c = sum-ext (joined T) open′ (λ r. sym (transpose-sum T r) ∙ promised .received r) in
+      let c = sum-ext (joined T) open′ (promised .received) in
       let d = sum-left in let e = sum-open in
       omega arith
 

@@ -11,27 +11,20 @@ use borrow.Author.Tests.{eqb-true, eqb-false, eq-eqb, ne-eqb}
 use lib.ListN.{length, getD}
 use lib.Seq.{ext-getD}
 use Rattle.lists.specs.Lists.{sum, most, Within}
-use Rattle.lists.specs.Columns.{_⊕_, _⊖_, _⊓_, Below, inside, four, totals, byRow}
-use Rattle.lists.proofs.Columns.{_!_, at-⊕, at-⊓, four-at, four-le, cond-le, Sited, sited-by, length-rowwise}
+use Rattle.lists.specs.Columns.{_⊕_, _⊖_, Below, inside, four, totals, byRow}
+use Rattle.lists.proofs.Columns.{_!_, at-⊕, four-at, four-le, cond-le, Sited, sited-by, length-rowwise, four-is}
 use Rattle.lists.proofs.Sums.{at-le-sum}
 use Rattle.lists.proofs.Rows.{fours-sized, fours-at, by-fours}
 use Rattle.sharing.specs.Sharing.{share}
 use Rattle.transfer.specs.Laws.{rowSum}
 use Rattle.sharing.proofs.Sharing.{share-lawful}
-use Rattle.transfer.proofs.Served.{four-is}
 use Rattle.cover.specs.Cover.{own, ownParts, table, got, rest, supplied}
 use Rattle.blocks.specs.Blocks.{standingAt, Rising, Raised, inColumns, Room}
 use Rattle.cover.specs.Givers.{gotBy, SentWithin}
-use Rattle.cover.proofs.Cover.{own-fits, own-under, own-sized, supplied-sized, at-supplied, four-rows, sent-is, row-is, row-under}
+use Rattle.cover.proofs.Cover.{own-fits, own-under, supplied-sized, at-supplied, four-rows, sent-is, row-is, row-under}
 use Rattle.blocks.proofs.Portion.{totals-fall}
-use Rattle.blocks.proofs.Slices.{standing-length, standing-in}
+use Rattle.blocks.proofs.Slices.{standing-length, portion-length, standing-in}
 use Rattle.cover.proofs.Serving.{room-kept}
-
-pub min-left : (xs ys : List ℕ) → Below (xs ⊓ ys) xs
-min-left xs ys j = let a = at-⊓ xs ys j in omega arith
-
-pub min-right : (xs ys : List ℕ) → Below (xs ⊓ ys) ys
-min-right xs ys j = let a = at-⊓ xs ys j in omega arith
 
 pub room-first : (want figures : List ℕ) → Within figures (2 ^ 62) → sum want ≤ most → Room want figures
 room-first want figures w h = record { at = λ i j l. let a = w .at (4 * i + j) in let b = at-le-sum want i in omega arith }
@@ -66,10 +59,10 @@ module _ (starts have want : List ℕ) (up : Rising starts (length want)) where
   still-room = room-kept share-lawful subs (own share subs have want) want (own-fits share-lawful subs have want) (0 ∷ 1 ∷ 2 ∷ 3 ∷ [])
 
   pub still-sized : length (want ⊖ ownParts share subs have want) ≡ length want
+  unfolding ownParts
   still-sized =
-      let a = length-rowwise _-_ 0 0 want (ownParts share subs have want) in
-      let b = own-sized share-lawful subs have want (let c = standing-length starts (length want) up in omega arith) in
-      let c = standing-length starts (length want) up in omega arith
+      length-rowwise _-_ 0 0 want (ownParts share subs have want)
+      ∙ (let a = portion-length starts (length want) up share-lawful (own share subs have want) want refl in omega arith)
 
   module _ (four-have : length have ≡ 4) (enough : sum want ≤ sum have) where
     abbrev T : List (List ℕ)

@@ -2,18 +2,19 @@
 use mathlib.Core.Path.{_≡_, refl, sym, ap, _∙_, subst}
 use mathlib.Core.Logic.{by-cases}
 use mathlib.Core.List.{List, [], _∷_}
-use Prim.Native.Nat.{ℕ, zero, suc, _+_, _-_, _≤_, _<_}
-use native.Mathlib.Nat.{add-zero}
-use native.Mathlib.Numerals.{add-one}
+use Prim.Native.Nat.{ℕ, _+_, _-_, _≤_, _<_}
 use native.Mathlib.Omega.{arith}
 use native.Mathlib.Decide.{ℕ-discrete}
 use lib.Dec.{eqb}
 use lib.ListN.{length, getD, take, drop}
-use lib.Seq.{take-all, drop-cons, drop-drop, getD-drop}
+use lib.Seq.{take-all, drop-drop, getD-take}
 use borrow.Author.Tests.{eq-eqb, ne-eqb}
 use Rattle.lists.specs.Lists.{sum, Within}
 use Rattle.lists.specs.Columns.{_⊖_, Below, at, totals}
-use Rattle.lists.proofs.Columns.{_!_, at-⊖, sum-⊖, each, four-le, cond-le, length-rowwise}
+use Rattle.lists.proofs.Loops.{drop-more, at-drop}
+use Rattle.lists.proofs.Columns.{_!_, at-⊖, sum-⊖, four-le, cond-le, length-rowwise}
+use Rattle.lists.proofs.Sums.{getD-table}
+use Rattle.lists.proofs.Parts.{past-take}
 use Rattle.sharing.specs.Sharing.{Rule, share}
 use Rattle.transfer.specs.Transfer.{serve}
 use Rattle.sharing.specs.Laws.{Lawful}
@@ -23,7 +24,7 @@ use Rattle.blocks.specs.Blocks.{Raised, inColumn, inColumns, Room}
 use Rattle.cover.specs.Givers.{gotBy, SentWithin}
 use Rattle.blocks.proofs.Portion.{portion-under, totals-fall}
 use Rattle.cover.proofs.Cover.{sent-first, sent-then}
-use Rattle.blocks.proofs.Handed.{past-take, next-here, next-there}
+use Rattle.blocks.proofs.Handed.{raise-nothing, next-there}
 
 -- what a giver sent is shared over the needs that are still open: there is room for the next
 pub room-kept : {rule : Rule} (L : Lawful rule) (subs amounts want : List ℕ) → Below amounts (totals subs want) → (columns : List ℕ) {figures after : List ℕ}
@@ -51,11 +52,6 @@ serve-cons : (subs want row : List ℕ) (rows : List (List ℕ))
 unfolding serve
 serve-cons subs want row rows = refl
 
--- whatever its submarket, a row is served from g
-all-from : (g t : ℕ) → t ≤ 4 → (g ∷ g ∷ g ∷ g ∷ []) ! (t - 1) ≡ g
-all-from g zero h = refl
-all-from g (suc t) h = each (λ t. (g ∷ g ∷ g ∷ g ∷ []) ! (t - 1) ≡ g) refl refl refl refl (suc t) (omega arith) h
-
 pub four-within : {a b c d : ℕ} → a < 4 → b < 4 → c < 4 → d < 4 → Within (a ∷ b ∷ c ∷ d ∷ []) 3
 four-within p q r s = record { at = four-le (λ _. 3) (omega arith) (omega arith) (omega arith) (omega arith) }
 
@@ -68,7 +64,7 @@ module _ {subs : List ℕ} {table : List (List ℕ)} {want₀ figures₀ sums₀
         same = refl;
         less = omega arith;
         left = refl;
-        rises = record { same = refl; by = λ i j h. omega arith };
+        rises = raise-nothing (λ i j. refl);
         still = e;
         sent = s;
         room = r;
@@ -83,7 +79,7 @@ module _ {subs : List ℕ} {table got : List (List ℕ)} {want₀ figures₀ wan
   parts = portion share subs row want
 
   turn : drop g table ≡ row ∷ drop (g + 1) table
-  turn = drop-cons table g [] (omega arith) ∙ ap (λ (n : ℕ). row ∷ drop n table) (sym (add-one g))
+  turn = drop-more table g [] (omega arith)
 
   sent : SentWithin (row ∷ drop (g + 1) table) sums
   sent = subst (λ l. SentWithin l sums) turn (k .sent)
@@ -99,7 +95,7 @@ module _ {subs : List ℕ} {table got : List (List ℕ)} {want₀ figures₀ wan
   next = sym (serve-cons subs want row (drop (g + 1) table)) ∙ ap (serve (portion share subs) want) (sym turn) ∙ k .left
 
   got-g : getD got g [] ≡ parts
-  got-g = sym (ap (λ (n : ℕ). getD got n []) (add-zero g)) ∙ sym (getD-drop g got 0 []) ∙ sym (ap (λ l. getD l 0 []) next)
+  got-g = sym (at-drop got g []) ∙ sym (ap (λ l. getD l 0 []) next)
 
   then-left : serve (portion share subs) (want ⊖ parts) (drop (g + 1) table) ≡ drop (g + 1) got
   then-left = ap (drop 1) next ∙ drop-drop 1 g got
@@ -111,13 +107,13 @@ module _ {subs : List ℕ} {table got : List (List ℕ)} {want₀ figures₀ wan
     new-rise i j = by-cases (ℕ-discrete j g) here there
       where
         from : inColumns (g ∷ g ∷ g ∷ g ∷ []) subs parts i j ≡ inColumn g parts i j
-        from = ap (λ (c : ℕ). inColumn c parts i j) (all-from g (subs ! i) (inside i))
+        from = ap (λ (c : ℕ). inColumn c parts i j) (getD-table (λ _. g) 4 (subs ! i - 1) 0 (let l = inside i in omega arith))
 
         here : j ≡ g → gotBy (take g got) i j + inColumns (g ∷ g ∷ g ∷ g ∷ []) subs parts i j ≡ gotBy (take (g + 1) got) i j
         here e =
             let a : gotBy (take g got) i j ≡ 0 = ap (λ l. l ! i) (past-take [] g got j (omega arith)) in
             let b : inColumn g parts i j ≡ parts ! i = rw (eq-eqb j g e) refl in
-            let c : gotBy (take (g + 1) got) i j ≡ parts ! i = rw e (ap (λ l. l ! i) (next-here [] got g ∙ got-g)) in
+            let c : gotBy (take (g + 1) got) i j ≡ parts ! i = rw e (ap (λ l. l ! i) (getD-take (g + 1) got g [] (omega arith) ∙ got-g)) in
             let d = from in omega arith
 
         there : (j ≡ g → ⊥) → gotBy (take g got) i j + inColumns (g ∷ g ∷ g ∷ g ∷ []) subs parts i j ≡ gotBy (take (g + 1) got) i j

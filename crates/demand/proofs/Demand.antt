@@ -10,22 +10,24 @@ use lib.ListN.{length, drop}
 use Rattle.lists.specs.Lists.{sum, sumℤ}
 use Rattle.lists.specs.Columns.{four, at}
 use Rattle.lists.specs.Questions.{outcome}
-use Rattle.lists.proofs.Questions.{accepted, asked, parted, number-itself, outcome-part}
+use Rattle.lists.proofs.Questions.{accepted, number-itself, outcome-part}
 use Rattle.hour.specs.declared.Plant.{Plant}
 use Rattle.hour.specs.Hour.{Hour, hourOf, surplus, coverTable, secondaryTable}
 use Rattle.hour.proofs.Hour.{sent-sum}
-use Rattle.ledger.specs.Ledger.{Ledger, zeros, allottedIn, netColumn, moneyColumn}
+use Rattle.ledger.specs.Ledger.{Ledger, zeros, allottedIn, netColumn, moneyColumn, netOf, moneyOf}
 use Rattle.month.specs.declared.Month.{Month}
 use Rattle.month.specs.declared.Balanced.{Balanced}
 use Rattle.month.specs.declared.Ended.{Ended}
-use Rattle.month.specs.declared.Stage.the-variants.{Blank, Open, Closed}
+use Rattle.month.specs.declared.Stage.the-variants.{Blank}
 use Rattle.month.specs.Questions.{isOpen, isBlank, openNumber, settleNumber, closeNumber, balanceNumber, posted}
-use Rattle.month.specs.Calls.{OpenEnd, openCall, SettleEnd, settleCall, balanceCall, closeCall}
-use Rattle.month.specs.Statement.{dueNumber, sizingNumber, statementNumber, statementOf, StatementEnd, statementCall}
+use Rattle.month.specs.Calls.{openedMonth, onward, closedMonth, OpenEnd, openCall, SettleEnd, settleCall, balanceCall, closeCall}
+use Rattle.month.specs.Statement.{statementNumber, statementOf, StatementEnd, statementCall}
 use Rattle.statement.specs.Statement.{statementText}
-use Rattle.demand.specs.Tally.{Call, opens, settles, balances, closes, State, number, next, after, entries, Tally, tallied, tally, hoursAfter, hours, summed, netOf, moneyOf, AddsUp, IsTally, Left, sent, Demand3·holds, StatementOfTally·holds}
+use Rattle.demand.specs.Tally.{Call, opens, settles, balances, closes, State, number, next, after, entries, Tally, tallied, tally, hoursAfter, hours, summed, AddsUp, IsTally, Left, sent, Demand3·holds, StatementOfTally·holds}
 use Rattle.demand.proofs.Sums.{zeros-add-up, zeros-priced, posted-adds-up, posted-priced}
-use Rattle.month.proofs.Accepted.{open-number, settle-number, balance-number, close-number, Settles, settle-accepted, close-accepted, balance-accepted}
+use Rattle.month.proofs.Accepted.{open-number, settle-number, balance-number, close-number, Settles, settle-accepted, close-accepted}
+use Rattle.month.proofs.Asked.{balance}
+use Rattle.month.proofs.StatementAsked.{granted}
 
 -- what holds between two calls
 abbrev Inv : State → State → Option Tally → List Hour → Type 0
@@ -40,21 +42,11 @@ blank-shut m b o = false≢true (sym (ap isOpen b) ∙ o)
 -- what an accepted call leaves
 changed : State → Call → State
 changed s (opens plants profile tariff) =
-    record {
-      month = record { stage = Open; plants = length plants; periods = length profile; tariff = tariff; due = 1 };
-      ledger = zeros (length plants);
-    }
+    record { month = openedMonth (length plants) (length profile) tariff; ledger = zeros (length plants) }
 changed s (settles plants profile metered lent) =
-    record {
-      month = record { stage = s .month .stage; plants = s .month .plants; periods = s .month .periods; tariff = s .month .tariff; due = s .month .due + 1 };
-      ledger = posted (s .ledger) (hourOf plants profile metered (s .month .due)) (s .month .tariff);
-    }
+    record { month = onward (s .month); ledger = posted (s .ledger) (hourOf plants profile metered (s .month .due)) (s .month .tariff) }
 changed s balances = s
-changed s closes =
-    record {
-      month = record { stage = Closed; plants = s .month .plants; periods = s .month .periods; tariff = s .month .tariff; due = s .month .due };
-      ledger = s .ledger;
-    }
+changed s closes = record { month = closedMonth (s .month); ledger = s .ledger }
 
 next-is : (s : State) (c : Call) → next s c ≡ outcome (number s c) (changed s c) (λ _. s)
 unfolding next number changed
@@ -102,15 +94,12 @@ module _ (s : State) (t : Tally) (hs : List Hour) (inv : IsTally s t hs) (plants
 kept : (start s : State) (t : Option Tally) (hs : List Hour) → Inv start s t hs → (c : Call) → number s c ≡ 0
     → Inv start (changed s c) (tallied t c) (hoursAfter hs c)
 unfolding number changed tallied hoursAfter summed
-kept start s none hs inv (opens plants profile tariff) e = record { figures = refl; sums = refl; addsUp = zeros-add-up (length plants); counted = refl; due = refl; tariff = refl; priced = zeros-priced (length plants) tariff }
-kept start s (some t) hs inv (opens plants profile tariff) e = record { figures = refl; sums = refl; addsUp = zeros-add-up (length plants); counted = refl; due = refl; tariff = refl; priced = zeros-priced (length plants) tariff }
+kept start s t hs inv (opens plants profile tariff) e = record { figures = refl; sums = refl; addsUp = zeros-add-up (length plants); counted = refl; due = refl; tariff = refl; priced = zeros-priced (length plants) tariff }
 kept start s none hs inv (settles plants profile metered lent) e =
-    absurd (blank-shut (s .month) (inv .0) (settle-accepted (s .month) plants profile metered lent (s .ledger) (sym (settle-number (s .month) plants profile metered lent (s .ledger)) ∙ e) .isOpened))
+    absurd (blank-shut (s .month) (inv .0) (settle-accepted (s .month) plants profile metered lent (s .ledger) e .isOpened))
 kept start s (some t) hs inv (settles plants profile metered lent) e =
-    settled s t hs inv plants profile metered lent
-    (settle-accepted (s .month) plants profile metered lent (s .ledger) (sym (settle-number (s .month) plants profile metered lent (s .ledger)) ∙ e))
-kept start s none hs inv balances e = inv
-kept start s (some t) hs inv balances e = inv
+    settled s t hs inv plants profile metered lent (settle-accepted (s .month) plants profile metered lent (s .ledger) e)
+kept start s t hs inv balances e = inv
 kept start s none hs inv closes e = absurd (blank-shut (s .month) (inv .0) (close-accepted (s .month) (sym (close-number (s .month)) ∙ e)))
 kept start s (some t) hs inv closes e =
     record { figures = inv .figures; sums = inv .sums; addsUp = inv .addsUp; counted = inv .counted; due = inv .due; tariff = inv .tariff; priced = inv .priced }
@@ -142,7 +131,7 @@ balanced′ : (start s : State) (t? : Option Tally) (hs : List Hour) → Inv sta
     × (balanceCall (s .month) (s .ledger) .net ≡ pos 0) × (balanceCall (s .month) (s .ledger) .money ≡ pos 0)
 unfolding isBlank
 balanced′ start s none hs inv e =
-    absurd (false≢true (sym (ap (λ x. not (isBlank x)) (inv .0)) ∙ balance-accepted (s .month) (s .ledger) (sym (balance-number (s .month) (s .ledger)) ∙ e)))
+    absurd (false≢true (sym (ap (λ x. not (isBlank x)) (inv .0)) ∙ balance (s .month) (s .ledger) _ refl (sym (balance-number (s .month) (s .ledger)) ∙ e) .notBlank))
 balanced′ start s (some t) hs inv e =
     let yes = sym (balance-number (s .month) (s .ledger)) ∙ e in
     let r = balance-yes (s .month) (s .ledger) yes in (
@@ -158,15 +147,15 @@ balanced′ start s (some t) hs inv e =
     balance-yes m l e = unfold balanceCall in accepted (balanceNumber m l) _ _ e
 
 -- an accepted settle
-settle-yes : (m : Month) (plants : List Plant) (profile metered lent : List ℕ) (l : Ledger) → settleNumber m plants profile metered lent l ≡ 0
+settle-yes : (m : Month) (plants : List Plant) (profile metered lent : List ℕ) (l : Ledger) → settleCall m plants profile metered lent l .answer .number ≡ 0
     → (let r = settleCall m plants profile metered lent l .answer in let h = hourOf plants profile metered (m .due) in
     (r .«cover_table» .rows ≡ coverTable h) × (r .«secondary_table» .rows ≡ secondaryTable h))
 unfolding settleCall
 settle-yes m plants profile metered lent l e =
-    let r = accepted (settleNumber m plants profile metered lent l) _ _ e in
+    let r = accepted (settleNumber m plants profile metered lent l) _ _ (sym (settle-number m plants profile metered lent l) ∙ e) in
     (ap (λ (x : SettleEnd). x .answer .«cover_table» .rows) r, ap (λ (x : SettleEnd). x .answer .«secondary_table» .rows) r)
 
-sentOut′ : (s : State) (plants : List Plant) (profile metered lent : List ℕ) → settleNumber (s .month) plants profile metered lent (s .ledger) ≡ 0
+sentOut′ : (s : State) (plants : List Plant) (profile metered lent : List ℕ) → settleCall (s .month) plants profile metered lent (s .ledger) .answer .number ≡ 0
     → (k : ℕ) → 1 ≤ k → k ≤ 4
     → sent k (settleCall (s .month) plants profile metered lent (s .ledger) .answer) ≤ at k (surplus (hourOf plants profile metered (s .month .due))) 0
 sentOut′ s plants profile metered lent e k l h =
@@ -182,14 +171,13 @@ sentOut″ : (start s : State) (t? : Option Tally) (hs : List Hour) → Inv star
     × ((k : ℕ) → 1 ≤ k → k ≤ 4
     → sent k (settleCall (s .month) plants profile metered lent (s .ledger) .answer) ≤ at k (surplus (hourOf plants profile metered (t .count + 1))) 0)
 sentOut″ start s none hs inv plants profile metered lent e =
-    absurd (blank-shut (s .month) (inv .0) (settle-accepted (s .month) plants profile metered lent (s .ledger)
-    (sym (settle-number (s .month) plants profile metered lent (s .ledger)) ∙ e) .isOpened))
+    absurd (blank-shut (s .month) (inv .0) (settle-accepted (s .month) plants profile metered lent (s .ledger) e .isOpened))
 sentOut″ start s (some t) hs inv plants profile metered lent e = (
   t,
   refl,
   λ k l h. subst
       (λ (d : ℕ). sent k (settleCall (s .month) plants profile metered lent (s .ledger) .answer) ≤ at k (surplus (hourOf plants profile metered d)) 0)
-      (inv .due) (sentOut′ s plants profile metered lent (sym (settle-number (s .month) plants profile metered lent (s .ledger)) ∙ e) k l h),
+      (inv .due) (sentOut′ s plants profile metered lent e k l h),
 )
 
 pub demand3 : Demand3·holds
@@ -203,14 +191,10 @@ demand3 start blank calls =
           plants profile metered lent e;
     }
 
--- an accepted statement is of a month that is not blank, and writes its text
+-- an accepted statement writes its text
 statement-number : (m : Month) (plants : List Plant) (l : Ledger) (lent : List ℕ) → statementCall m plants l lent .answer .number ≡ statementNumber m plants l (length lent)
 unfolding statementCall
 statement-number m plants l lent = outcome-part (λ (r : StatementEnd). r .answer .number) (statementNumber m plants l (length lent)) _ _ ∙ number-itself _
-
-statement-not-blank : (m : Month) (plants : List Plant) (l : Ledger) (n : ℕ) → statementNumber m plants l n ≡ 0 → not (isBlank (m .stage)) ≡ true
-unfolding statementNumber sizingNumber dueNumber
-statement-not-blank m plants l n e = asked _ _ _ tt (parted _ _ (parted _ _ e .0) .0) .0
 
 stated′ : (start s : State) (t? : Option Tally) (hs : List Hour) → Inv start s t? hs → (plants : List Plant) (lent : List ℕ)
     → statementNumber (s .month) plants (s .ledger) (length lent) ≡ 0
@@ -218,15 +202,12 @@ stated′ : (start s : State) (t? : Option Tally) (hs : List Hour) → Inv start
     × (let text = statementText (length hs) plants (t .figures) in statementCall (s .month) plants (s .ledger) lent .bytes ≡ text ++ drop (length text) lent)
 unfolding isBlank statementCall statementOf
 stated′ start s none hs inv plants lent e =
-    absurd (false≢true (sym (ap (λ x. not (isBlank x)) (inv .0)) ∙ statement-not-blank (s .month) plants (s .ledger) (length lent) e))
+    absurd (false≢true (sym (ap (λ x. not (isBlank x)) (inv .0)) ∙ granted (s .month) plants (s .ledger) (length lent) _ refl e .sized .due .notBlank))
 stated′ start s (some t) hs inv plants lent e =
-    let settled : s .month .due - 1 ≡ length hs = ap (λ n. n - 1) (inv .due) ∙ sub-one (t .count) ∙ inv .counted in
+    let settled : s .month .due - 1 ≡ length hs = omega (arith, inv .due, inv .counted) in
     let text : statementText (s .month .due - 1) plants (s .ledger) ≡ statementText (length hs) plants (t .figures) =
     ap₂ (λ n l. statementText n plants l) settled (inv .figures) in
     (t, refl, ap (λ (x : StatementEnd). x .bytes) (accepted (statementNumber (s .month) plants (s .ledger) (length lent)) _ _ e) ∙ ap (λ x. x ++ drop (length x) lent) text)
-  where
-    sub-one : (n : ℕ) → n + 1 - 1 ≡ n
-    sub-one n = omega arith
 
 pub statement-of-tally : StatementOfTally·holds
 statement-of-tally start blank calls plants lent e =

@@ -3,7 +3,7 @@ use mathlib.Core.Path.{_≡_, refl, sym, ap, ap₂, _∙_}
 use Prim.Native.Nat.{ℕ, _+_, _-_, _*_}
 use native.Mathlib.Omega.{arith}
 use mathlib.Core.List.{List, [], _∷_}
-use lib.IntN.{pos, subℕ, _+ℤ_, _*ℤ_, zero-*ℤ}
+use lib.IntN.{ℤ, pos, subℕ, _+ℤ_, _*ℤ_, zero-*ℤ}
 use lib.ListN.{getD, take, drop, replicate}
 use Rattle.lists.specs.Columns.{_⊕_, _⊕ℤ_, column}
 use Rattle.lists.specs.Lists.{sum, sumℤ}
@@ -16,18 +16,15 @@ use Rattle.signed.proofs.View.{plus-swap, times-plus}
 use Rattle.hour.specs.Hour.{Hour, covered, rights, figure, nets, allotment}
 use Rattle.hour.proofs.Hour.{Sound, column-sum}
 use Rattle.hour.proofs.Figures.{hour-column, hour-row, nets-sum, at-nets}
-use Rattle.ledger.specs.Ledger.{Ledger, zeros, added, netColumn, moneyColumn}
+use Rattle.ledger.specs.Ledger.{Ledger, zeros, added, netColumn, moneyColumn, netOf, moneyOf}
+use Rattle.ledger.proofs.Posting.{added-column}
 use Rattle.month.specs.Questions.{posted}
-use Rattle.demand.specs.Tally.{rowAllotted, netOf, moneyOf, AddsUp}
+use Rattle.demand.specs.Tally.{rowAllotted, AddsUp}
 
 -- the four figures of row i, by columns
 row-is : (l : List ℕ) (i : ℕ) → sum (take 4 (drop (4 * i) l)) ≡ column 4 0 l ! i + column 4 1 l ! i + column 4 2 l ! i + column 4 3 l ! i
 unfolding sum
 row-is l i = row-sum 4 (omega arith) l i ∙ omega arith
-
--- the net of row i, by columns
-net-is : (l : Ledger) (i : ℕ) → netOf i l ≡ getD (netColumn l) i (pos 0)
-net-is l i = sym (column-place 2 0 (omega arith) (l .accounts) i (pos 0) (omega arith))
 
 -- ---- zeros
 pub zeros-add-up : (p : ℕ) → AddsUp (zeros p) []
@@ -56,15 +53,13 @@ module _ (l : Ledger) (h : Hour) (ok : Sound h) (tariff : ℕ) where
   unfolding posted added
   posted-column k = column-rowwise _+_ 0 0 4 k (l .allotted) (allotment h)
 
-  posted-accounts : (k : ℕ) → column 2 k (posted l h tariff .accounts) ≡ column 2 k (l .accounts) ⊕ℤ column 2 k (accountsOf tariff (nets h))
-  unfolding posted added
-  posted-accounts k = column-rowwise _+ℤ_ (pos 0) (pos 0) 2 k (l .accounts) (accountsOf tariff (nets h))
-
   posted-nets : netColumn (posted l h tariff) ≡ netColumn l ⊕ℤ nets h
-  posted-nets = posted-accounts 0 ∙ ap (λ zs. netColumn l ⊕ℤ zs) (accounts-net tariff (nets h))
+  unfolding posted added
+  posted-nets = added-column (l .accounts) tariff (nets h) 0 (accounts-net tariff (nets h))
 
   posted-money : moneyColumn (posted l h tariff) ≡ moneyColumn l ⊕ℤ atRate tariff (nets h)
-  posted-money = posted-accounts 1 ∙ ap (λ zs. moneyColumn l ⊕ℤ zs) (accounts-money tariff (nets h))
+  unfolding posted added
+  posted-money = added-column (l .accounts) tariff (nets h) 1 (accounts-money tariff (nets h))
 
   posted-at : (k i : ℕ) → column 4 k (posted l h tariff .allotted) ! i ≡ column 4 k (l .allotted) ! i + column 4 k (allotment h) ! i
   posted-at k i = rw posted-column (at-⊕ (column 4 k (l .allotted)) (column 4 k (allotment h)) i)
@@ -75,12 +70,17 @@ module _ (l : Ledger) (h : Hour) (ok : Sound h) (tariff : ℕ) where
       let p = posted-at 0 i in let q = posted-at 1 i in let r = posted-at 2 i in let s = posted-at 3 i in
       omega arith
 
+  -- the account in column j of row i
+  posted-account : (j k i : ℕ) → k ≡ 2 * i + j → {zs : List ℤ} → column 2 j (accountsOf tariff (nets h)) ≡ zs
+      → getD (posted l h tariff .accounts) k (pos 0) ≡ getD (l .accounts) k (pos 0) +ℤ getD zs i (pos 0)
+  unfolding posted added
+  posted-account j k i e c =
+      getD-rowwise _+ℤ_ (pos 0) (pos 0) refl (l .accounts) (accountsOf tariff (nets h)) k
+      ∙ ap (λ z. getD (l .accounts) k (pos 0) +ℤ z)
+      (sym (column-place 2 j (omega arith) (accountsOf tariff (nets h)) i (pos 0) e) ∙ ap (λ zs. getD zs i (pos 0)) c)
+
   posted-net : (i : ℕ) → netOf i (posted l h tariff) ≡ netOf i l +ℤ subℕ (h .metered ! i) (covered h ! i + rights h ! i)
-  posted-net i =
-      net-is (posted l h tariff) i
-      ∙ ap (λ zs. getD zs i (pos 0)) posted-nets
-      ∙ getD-rowwise _+ℤ_ (pos 0) (pos 0) refl (netColumn l) (nets h) i
-      ∙ ap₂ (λ x y. x +ℤ y) (sym (net-is l i)) (at-nets h ok i)
+  posted-net i = posted-account 0 (2 * i) i (omega arith) (accounts-net tariff (nets h)) ∙ ap (λ z. netOf i l +ℤ z) (at-nets h ok i)
 
   pub posted-adds-up : (hs : List Hour) → AddsUp l hs → AddsUp (posted l h tariff) (h ∷ hs)
   unfolding sum
@@ -105,9 +105,6 @@ module _ (l : Ledger) (h : Hour) (ok : Sound h) (tariff : ℕ) where
       }
 
 -- each row's money is its net × TEO: from zeros, and hour by hour
-money-is : (l : Ledger) (i : ℕ) → moneyOf i l ≡ getD (moneyColumn l) i (pos 0)
-money-is l i = sym (column-place 2 1 (omega arith) (l .accounts) i (pos 0) (omega arith))
-
 pub zeros-priced : (p tariff i : ℕ) → moneyOf i (zeros p) ≡ netOf i (zeros p) *ℤ pos tariff
 unfolding zeros
 zeros-priced p tariff i =
@@ -116,9 +113,7 @@ zeros-priced p tariff i =
 pub posted-priced : (l : Ledger) (h : Hour) → Sound h → (tariff : ℕ) → ((i : ℕ) → moneyOf i l ≡ netOf i l *ℤ pos tariff)
     → (i : ℕ) → moneyOf i (posted l h tariff) ≡ netOf i (posted l h tariff) *ℤ pos tariff
 posted-priced l h ok tariff so i =
-    money-is (posted l h tariff) i
-    ∙ ap (λ zs. getD zs i (pos 0)) (posted-money l h ok tariff)
-    ∙ getD-rowwise _+ℤ_ (pos 0) (pos 0) refl (moneyColumn l) (atRate tariff (nets h)) i
-    ∙ ap₂ (λ x y. x +ℤ y) (sym (money-is l i) ∙ so i) (at-rate tariff (nets h) i ∙ ap (λ z. z *ℤ pos tariff) (at-nets h ok i))
+    posted-account l h ok tariff 1 (2 * i + 1) i refl (accounts-money tariff (nets h))
+    ∙ ap₂ (λ x y. x +ℤ y) (so i) (at-rate tariff (nets h) i ∙ ap (λ z. z *ℤ pos tariff) (at-nets h ok i))
     ∙ sym (times-plus (netOf i l) (subℕ (h .metered ! i) (covered h ! i + rights h ! i)) tariff)
     ∙ ap (λ z. z *ℤ pos tariff) (sym (posted-net l h ok tariff i))

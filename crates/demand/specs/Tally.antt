@@ -3,14 +3,14 @@ use mathlib.Core.Path.{_≡_}
 use Prim.Native.Nat.{ℕ, _+_, _*_, _≤_}
 use mathlib.Core.List.{List, [], _∷_, _++_, map}
 use mathlib.Core.Option.{Option, none, some}
-use lib.IntN.{ℤ, pos, _+ℤ_, _*ℤ_}
+use lib.IntN.{pos, _+ℤ_, _*ℤ_}
 use lib.ListN.{length, take, drop, getD}
 use Rattle.lists.specs.Lists.{sum, sumℤ}
 use Rattle.lists.specs.Columns.{within, four, at}
 use Rattle.lists.specs.Questions.{outcome}
 use Rattle.hour.specs.declared.Plant.{Plant}
 use Rattle.hour.specs.Hour.{Hour, hourOf, submarkets, covered, surplus}
-use Rattle.ledger.specs.Ledger.{Ledger, allottedIn, netColumn, moneyColumn, zeros}
+use Rattle.ledger.specs.Ledger.{Ledger, allottedIn, netColumn, moneyColumn, netOf, moneyOf, zeros}
 use Rattle.month.specs.declared.Month.{Month}
 use Rattle.month.specs.declared.Settled.{Settled}
 use Rattle.month.specs.declared.Stage.the-variants.{Blank}
@@ -31,13 +31,14 @@ pub record State : Type 0 where
   pub month : Month
   pub ledger : Ledger
 
--- The number that a call answers, and what it leaves
+-- The number that a call answers
 unfoldable pub number : State → Call → ℕ
 number s (opens plants profile tariff) = openCall (s .month) plants profile tariff (s .ledger) .answer .number
 number s (settles plants profile metered lent) = settleCall (s .month) plants profile metered lent (s .ledger) .answer .number
 number s balances = balanceCall (s .month) (s .ledger) .number
 number s closes = closeCall (s .month) .number
 
+-- ... and what it leaves: the month that it hands back, and the ledger
 unfoldable pub next : State → Call → State
 next s (opens plants profile tariff) =
     let r = openCall (s .month) plants profile tariff (s .ledger) in record { month = r .answer .month; ledger = r .ledger }
@@ -46,15 +47,17 @@ next s (settles plants profile metered lent) =
 next s balances = record { month = balanceCall (s .month) (s .ledger) .month; ledger = s .ledger }
 next s closes = record { month = closeCall (s .month) .month; ledger = s .ledger }
 
+-- What a list of calls leaves
 unfoldable pub after : State → List Call → State
 after s [] = s
 after s (c ∷ cs) = after (next s c) cs
 
--- A call and the number that it answered; a list's
+-- A call and the number that it answered
 pub record Entry : Type 0 where
   pub call : Call
   pub answered : ℕ
 
+-- ... of each call of a list
 unfoldable pub entries : State → List Call → List Entry
 entries s [] = []
 entries s (c ∷ cs) = record { call = c; answered = number s c } ∷ entries (next s c) cs
@@ -80,13 +83,14 @@ unfoldable pub tally : Option Tally → List Entry → Option Tally
 tally t [] = t
 tally t (e ∷ es) = tally (outcome (e .answered) (tallied t (e .call)) (λ _. t)) es
 
--- The hours accepted since the last accepted open, the latest first
+-- The hours accepted since the last accepted open, the latest first, after one more accepted call
 unfoldable pub hoursAfter : List Hour → Call → List Hour
 hoursAfter hs (opens plants profile tariff) = []
 hoursAfter hs (settles plants profile metered lent) = hourOf plants profile metered (length hs + 1) ∷ hs
 hoursAfter hs balances = hs
 hoursAfter hs closes = hs
 
+-- ... after a list's calls, of which a refused one changes nothing
 unfoldable pub hours : List Hour → List Entry → List Hour
 hours hs [] = hs
 hours hs (e ∷ es) = hours (outcome (e .answered) (hoursAfter hs (e .call)) (λ _. hs)) es
@@ -106,15 +110,9 @@ meteredOfRow i h = getD (h .metered) i 0
 abbrev pub coveredOfRow : ℕ → Hour → ℕ
 coveredOfRow i h = getD (covered h) i 0
 
--- The four figures of row i, added up; its net and its money
+-- The four figures of row i, added up
 abbrev pub rowAllotted : ℕ → Ledger → ℕ
 rowAllotted i l = sum (take 4 (drop (4 * i) (l .allotted)))
-
-abbrev pub netOf : ℕ → Ledger → ℤ
-netOf i l = getD (l .accounts) (2 * i) (pos 0)
-
-abbrev pub moneyOf : ℕ → Ledger → ℤ
-moneyOf i l = getD (l .accounts) (2 * i + 1) (pos 0)
 
 -- A ledger adds up over hours: columns, rows, nets, money, covered guarantees
 pub record AddsUp (l : Ledger) (hs : List Hour) : Type 0 where
@@ -173,6 +171,7 @@ pub record StatementOfTally (start : State) (calls : List Call) (plants : List P
       let text = statementText (length (hours [] (entries start calls))) plants (tallied .figures) in
       statementCall (s .month) plants (s .ledger) lent .bytes ≡ text ++ drop (length text) lent
 
+-- ... after every list of calls from a blank month, whatever plants and bytes are lent
 abbrev pub StatementOfTally·holds : Type 0
 StatementOfTally·holds = (start : State) → start .month .stage ≡ Blank → (calls : List Call) (plants : List Plant) (lent : List ℕ)
     → statementCall (after start calls .month) plants (after start calls .ledger) lent .answer .number ≡ 0 → StatementOfTally start calls plants lent

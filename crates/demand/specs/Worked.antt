@@ -18,7 +18,8 @@ use Rattle.cover.specs.Cover.{own, ownParts, table, got, rest}
 use Rattle.hour.specs.declared.Plant.{Plant}
 use Rattle.hour.specs.Hour.{Hour, hourOf, modulated, guaranteed, submarkets, guarantees, secondary, covered, deficit, surplus, leftOver, rights, ownCover, coverGot, ownSecondary, secondaryGot, coverTable, secondaryTable, figure, nets, allotment}
 use Rattle.ledger.specs.Ledger.{inBounds, zeros, added}
-use Rattle.statement.specs.Worked.{plant, plants}
+use Rattle.statement.specs.Worked.{plant, plants, ledger}
+use Rattle.month.specs.declared.Month.{Month}
 use Rattle.month.specs.declared.Stage.the-variants.{Closed}
 use Rattle.questions.specs.Questions.{sizesNumber, placed, numbered, rowNumber, rowsNumber, lengthsNumber, ledgerNumber, tablesNumber}
 use Rattle.month.specs.Questions.{isOpen, isBlank, openNumber, ownNumber, meteredNumber, inputsNumber, posted, boundsNumber, settleNumber, closeNumber, balanceNumber}
@@ -30,6 +31,7 @@ abbrev hour : ℕ → ℕ → ℕ → ℕ → ℕ → ℕ → ℕ → Hour
 hour q₁ q₂ q₃ whole g₁ g₂ g₃ =
     hourOf (plant 1 10 q₁ ∷ plant 1 11 q₂ ∷ plant 2 20 q₃ ∷ []) (whole ∷ []) (g₁ ∷ g₂ ∷ g₃ ∷ []) 1
 
+-- (m4): Q 101, with factors of 970,000 and 900,000 millionths
 abbrev small : Plant
 small = record { submarket = 1; number = 1; guarantee = 101; loss = 970000; availability = 900000 }
 
@@ -47,9 +49,11 @@ h2 = hour 100 50 60 240 200 0 40
 abbrev h5 : Hour
 h5 = hour 0 0 0 180 130 20 30
 
+-- m1 to m8 of 'Hours to prove by hand'
 pub record Worked : Type 0 where
-  m1 : allotment h1 ≡ 85 ∷ 0 ∷ 0 ∷ 0 ∷ 43 ∷ 0 ∷ 0 ∷ 0 ∷ 22 ∷ 30 ∷ 0 ∷ 0 ∷ []
-  m1·accounts : accountsOf 1300 (nets h1) ≡ pos 45 ∷ pos 58500 ∷ negsuc 22 ∷ negsuc 29899 ∷ negsuc 21 ∷ negsuc 28599 ∷ []
+  -- 85 | 43 | 22 and 30; nets 45, −23, −22: as the statement shows them (`statement` Worked)
+  m1 : allotment h1 ≡ ledger .allotted
+  m1·accounts : accountsOf 1300 (nets h1) ≡ ledger .accounts
   m1·covered : covered h1 ≡ 85 ∷ 43 ∷ 52 ∷ []
   m2 : allotment h2 ≡ 114 ∷ 0 ∷ 0 ∷ 0 ∷ 57 ∷ 0 ∷ 0 ∷ 0 ∷ 29 ∷ 40 ∷ 0 ∷ 0 ∷ []
   m2·secondary : secondary h2 ≡ 30
@@ -92,23 +96,27 @@ worked =
 abbrev pub start : State
 start = record { month = blank; ledger = record { allotted = replicate 12 1; accounts = replicate 6 (pos 1) } }
 
-abbrev calls : List Call
+abbrev pub calls : List Call
 calls =
     balances ∷ opens plants (180 ∷ []) 1300 ∷ closes ∷ settles plants (180 ∷ []) (130 ∷ 20 ∷ 30 ∷ []) (replicate 12 0) ∷ balances ∷ closes ∷ []
 
+-- ... and the month that they leave
+abbrev pub closed : Month
+closed = record { stage = Closed; plants = 3; periods = 1; tariff = 1300; due = 2 }
+
+-- What that list answers and leaves: its numbers, its ledger and its month, and what a settle at its place and a balance after it answer
 pub record Listed : Type 0 where
   numbers : map (λ (e : Entry). e .answered) (entries start calls) ≡ 21 ∷ 0 ∷ 20 ∷ 0 ∷ 0 ∷ 0 ∷ []
-  allotted : after start calls .ledger .allotted ≡ 85 ∷ 0 ∷ 0 ∷ 0 ∷ 43 ∷ 0 ∷ 0 ∷ 0 ∷ 22 ∷ 30 ∷ 0 ∷ 0 ∷ []
-  accounted : after start calls .ledger .accounts ≡ pos 45 ∷ pos 58500 ∷ negsuc 22 ∷ negsuc 29899 ∷ negsuc 21 ∷ negsuc 28599 ∷ []
+  left : after start calls .ledger ≡ ledger
   settled : let s = after start (balances ∷ opens plants (180 ∷ []) 1300 ∷ closes ∷ []) in
       let r = settleCall (s .month) plants (180 ∷ []) (130 ∷ 20 ∷ 30 ∷ []) (replicate 12 7) (s .ledger) in
       let a = r .answer in
       (a .secondary ≡ 0) × (a .guarantees ≡ 210) × (a .«secondary_table» .rows ≡ noTable)
       × (a .«cover_table» .rows ≡ (0 ∷ 22 ∷ 0 ∷ 0 ∷ []) ∷ replicate 3 (replicate 4 0))
-      × (r .allotment ≡ 85 ∷ 0 ∷ 0 ∷ 0 ∷ 43 ∷ 0 ∷ 0 ∷ 0 ∷ 22 ∷ 30 ∷ 0 ∷ 0 ∷ [])
+      × (r .allotment ≡ ledger .allotted)
   columns : let s = after start calls in balanceCall (s .month) (s .ledger) .columns ≡ 150 ∷ 30 ∷ 0 ∷ 0 ∷ []
-  month : after start calls .month ≡ record { stage = Closed; plants = 3; periods = 1; tariff = 1300; due = 2 }
+  month : after start calls .month ≡ closed
 
 pub listed : Listed
 unfolding rowwise sum every atMost joined totals transpose flatten _then_ firstNo inRange outcome parts share serve transfer apart sharingNumber sharingCall transferNumber transferCall hourOf modulated guaranteed portion own ownParts table got rest submarkets guarantees secondary covered deficit surplus leftOver rights ownCover coverGot ownSecondary secondaryGot coverTable secondaryTable figure nets allotment accountsOf column sumℤ isWithin inBounds zeros added posted isOpen isBlank sizesNumber placed numbered rowNumber rowsNumber lengthsNumber ledgerNumber tablesNumber openNumber ownNumber meteredNumber inputsNumber boundsNumber settleNumber closeNumber balanceNumber openCall settleCall balanceCall closeCall number next after entries
-listed = record { numbers = refl; allotted = refl; accounted = refl; settled = (refl, refl, refl, refl, refl); columns = refl; month = refl }
+listed = record { numbers = refl; left = refl; settled = (refl, refl, refl, refl, refl); columns = refl; month = refl }

@@ -1,29 +1,26 @@
 -- Laws of figures written: digit by digit, how long a figure is, and that reading it gives it back. Assumes nothing.
 use mathlib.Core.Path.{_≡_, refl, sym, ap, _∙_}
-use mathlib.Core.Bool.{Bool, true, false}
+use mathlib.Core.Logic.{by-cases}
 use mathlib.Core.List.{List, [], _∷_, _++_, append-assoc}
 use Prim.Native.Nat.{ℕ, zero, suc, _+_, _-_, _*_, _/_, _%_, _^_, _≤_, _<_}
 use native.Mathlib.Nat.{pow-succ'}
 use native.Mathlib.Numerals.{add-one}
+use native.Mathlib.Decide.{decLt}
 use native.Mathlib.Omega.{arith}
-use borrow.Author.Tests.{lt-ltb, le-ltb, ltb-true, ltb-false}
-use lib.Dec.{ltb}
+use borrow.Author.Tests.{lt-ltb, le-ltb}
 use lib.ListN.{length, take, drop, set, length-append, length-set, take-append-drop}
 use lib.Seq.{take-set-le, drop-set-lt, drop-cons, getD-set-same}
 use Rattle.figures.specs.Figures.{digits, figure, figureLength, valueFrom, value, written, Wrote}
 
 -- ---- digit by digit
 
-digits-by : (k m x : ℕ) (t : Bool) → ltb x 10 ≡ t → x < suc k → x < suc m → (10 ≤ x → digits k (x / 10) ≡ digits m (x / 10)) → digits (suc k) x ≡ digits (suc m) x
-unfolding digits
-digits-by k m x true e h j ih = rw e
-digits-by k m x false e h j ih = rw (e, ih (ltb-false x 10 e))
-
 -- more places than x has change nothing
 enough : (k m x : ℕ) → x < k → x < m → digits k x ≡ digits m x
+unfolding digits
 enough zero m x h j = absurd (omega arith)
 enough (suc k) zero x h j = absurd (omega arith)
-enough (suc k) (suc m) x h j = digits-by k m x (ltb x 10) refl h j (λ t. enough k m (x / 10) (omega arith) (omega arith))
+enough (suc k) (suc m) x h j =
+    by-cases (decLt x 10) (λ l. rw (lt-ltb x 10 l)) (λ g. rw (le-ltb x 10 (omega arith), enough k m (x / 10) (omega arith) (omega arith)))
 
 pub figure-small : (x : ℕ) → x < 10 → figure x ≡ (48 + x) ∷ []
 unfolding figure digits
@@ -47,25 +44,19 @@ length-more x h = ap length (figure-more x h) ∙ length-append (figure (x / 10)
 pub tens : {P : ℕ → Type 0} → ((x : ℕ) → x < 10 → P x) → ((x : ℕ) → 10 ≤ x → P (x / 10) → P x) → (x : ℕ) → P x
 tens {P} small more x = down (suc x) x (omega arith)
   where
-    by : (k x : ℕ) (t : Bool) → ltb x 10 ≡ t → x < suc k → (10 ≤ x → P (x / 10)) → P x
-    by k x true e h ih = small x (ltb-true x 10 e)
-    by k x false e h ih = more x (ltb-false x 10 e) (ih (ltb-false x 10 e))
-
     down : (k x : ℕ) → x < k → P x
     down zero x h = absurd (omega arith)
-    down (suc k) x h = by k x (ltb x 10) refl h (λ t. down k (x / 10) (omega arith))
+    down (suc k) x h = by-cases (decLt x 10) (small x) (λ g. more x (omega arith) (down k (x / 10) (omega arith)))
 
 pub length-pos : (x : ℕ) → 1 ≤ figureLength x
-length-pos x = tens {P = λ (x : ℕ). 1 ≤ figureLength x} (λ x h. omega (arith, length-small x h)) (λ x h ih. omega (arith, length-more x h)) x
+length-pos = tens (λ x h. omega (arith, length-small x h)) (λ x h ih. omega (arith, length-more x h))
 
 -- a number below 10 to the k, k above 0, has at most k digits
 pub length-le : (k x : ℕ) → x < 10 ^ suc k → figureLength x ≤ suc k
 length-le zero x h = omega (arith, length-small x h)
-length-le (suc k) x h = by (ltb x 10) refl (length-le k (x / 10) (omega (arith, pow-succ' 10 (suc k))))
-  where
-    by : (t : Bool) → ltb x 10 ≡ t → figureLength (x / 10) ≤ suc k → figureLength x ≤ suc (suc k)
-    by true e ih = omega (arith, length-small x (ltb-true x 10 e))
-    by false e ih = omega (arith, length-more x (ltb-false x 10 e))
+length-le (suc k) x h =
+    by-cases (decLt x 10) (λ l. omega (arith, length-small x l))
+    (λ g. omega (arith, length-more x (omega arith), length-le k (x / 10) (omega (arith, pow-succ' 10 (suc k)))))
 
 -- that of a `u64` takes at most 20 bytes
 pub length-le-20 : (x : ℕ) → x < 2 ^ 64 → figureLength x ≤ 20
@@ -79,7 +70,7 @@ padded (suc k) x = padded k (x / 10) ++ ((48 + x % 10) ∷ [])
 
 pub figure-padded : (x : ℕ) → figure x ≡ padded (figureLength x) x
 unfolding padded
-figure-padded = tens {P = λ (x : ℕ). figure x ≡ padded (figureLength x) x} (λ x h. rw (length-small x h) (figure-small x h ∙ ap (λ (d : ℕ). (48 + d) ∷ []) (omega arith))) (λ x h ih. figure-more x h ∙ ap (λ (l : List ℕ). l ++ ((48 + x % 10) ∷ [])) ih ∙ rw (length-more x h))
+figure-padded = tens (λ x h. rw (length-small x h) (figure-small x h ∙ ap (λ (d : ℕ). (48 + d) ∷ []) (omega arith))) (λ x h ih. figure-more x h ∙ ap (λ (l : List ℕ). l ++ ((48 + x % 10) ∷ [])) ih ∙ rw (length-more x h))
 
 -- a loop that writes from the last digit to the first
 pub record Writing (x at : ℕ) (text₀ : List ℕ) (i rest : ℕ) (text : List ℕ) : Type 0 where
@@ -131,6 +122,6 @@ value-append v (x ∷ xs) ys = value-append (10 * v + (x - 48)) xs ys
 
 pub value-figure : (x : ℕ) → value (figure x) ≡ x
 unfolding value valueFrom
-value-figure = tens {P = λ (x : ℕ). value (figure x) ≡ x}
-    (λ x h. rw (figure-small x h) (omega arith))
+value-figure =
+    tens (λ x h. rw (figure-small x h) (omega arith))
     (λ x h ih. rw (figure-more x h, value-append 0 (figure (x / 10)) ((48 + x % 10) ∷ [])) (omega (arith, ih)))

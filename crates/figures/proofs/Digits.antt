@@ -7,7 +7,6 @@ use native.Mathlib.Nat.{pow-succ', pow-le-pow-right}
 use native.Mathlib.Numerals.{add-one}
 use native.Mathlib.Omega.{arith}
 use lib.ListN.{length, drop, getD, drop-of-length-le}
-use lib.Seq.{drop-cons}
 use Rattle.lists.specs.Lists.{every}
 use Rattle.lists.specs.Questions.{inRange}
 use Rattle.lists.proofs.Questions.{limits}
@@ -42,7 +41,7 @@ module _ {f : List ℕ} where
     reading-more e d =
         record {
           tested = passing-more (r .tested) (drop-more f i 0 h) (rw (← e) d);
-          made = r .made ∙ rw (drop-cons f i 0, add-one, e);
+          made = r .made ∙ rw (drop-more f i 0, e);
           small = rw add-one (omega (arith, limits 48 57 b d, r .small, pow-succ' 10 i));
         }
 

@@ -28,30 +28,25 @@ digit-is d h = and-both _ true (in-range 48 57 (48 + d) (omega arith) (omega ari
 
 pub digits-all : (x : ℕ) → every isDigit (figure x) ≡ true
 digits-all =
-    tens {P = λ (x : ℕ). every isDigit (figure x) ≡ true} (λ x h. rw (figure-small x h) (digit-is x h))
+    tens (λ x h. rw (figure-small x h) (digit-is x h))
     (λ x h ih. rw (figure-more x h) (every-append isDigit (figure (x / 10)) ((48 + x % 10) ∷ []) ih (digit-is (x % 10) (omega arith))))
 
 -- the first digit of a number above 0 is no zero
-figure-some : (x : ℕ) → 1 ≤ length (figure x)
-unfolding figureLength
-figure-some x = length-pos x
-
 first-digit : (x : ℕ) → 0 < x → 49 ≤ getD (figure x) 0 0
+unfolding figureLength
 first-digit =
-    tens {P = λ (x : ℕ). 0 < x → 49 ≤ getD (figure x) 0 0} (λ x h p. rw (figure-small x h) (omega arith))
-    (λ x h ih p.
-    let inside : 0 < length (figure (x / 10)) = figure-some (x / 10) in
-    rw (figure-more x h, List·getD-append (figure (x / 10)) ((48 + x % 10) ∷ []) 0 0 inside) (ih (omega arith)))
+    tens (λ x h p. rw (figure-small x h) (omega arith))
+    (λ x h ih p. rw (figure-more x h, List·getD-append (figure (x / 10)) ((48 + x % 10) ∷ []) 0 0 (length-pos (x / 10))) (ih (omega arith)))
 
 no-leading : (x : ℕ) → not (leadingZero (figure x)) ≡ true
 unfolding leadingZero
 no-leading =
-    tens {P = λ (x : ℕ). not (leadingZero (figure x)) ≡ true} (λ x h. rw (figure-small x h))
+    tens (λ x h. rw (figure-small x h))
     (λ x h ih. not-yes (leadingZero (figure x)) (and-second (ltb 1 (length (figure x))) (eqb (getD (figure x) 0 0) 48) (ne-eqb (getD (figure x) 0 0) 48 (λ e. omega (arith, first-digit x (omega arith))))))
 
 figure-good : (x : ℕ) → x < 10 ^ 19 → isFigure (figure x) ≡ true
 unfolding isFigure figureLength
-figure-good x h = and-both _ _ (in-range 1 19 (length (figure x)) (figure-some x) (length-le 18 x h)) (and-both _ _ (no-leading x) (digits-all x))
+figure-good x h = and-both _ _ (in-range 1 19 (length (figure x)) (length-pos x) (length-le 18 x h)) (and-both _ _ (no-leading x) (digits-all x))
 
 -- ---- what passes question 29 is what would be written
 

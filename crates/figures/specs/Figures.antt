@@ -23,6 +23,7 @@ unfoldable pub minus : ℤ → List ℕ
 minus (pos n) = []
 minus (negsuc n) = 45 ∷ []
 
+-- a signed figure as it is written: its minus, and how far it is from zero
 unfoldable pub signedFigure : ℤ → List ℕ
 signedFigure z = minus z ++ figure (natAbs z)
 
@@ -47,6 +48,7 @@ unfoldable pub valueFrom : ℕ → List ℕ → ℕ
 valueFrom v [] = v
 valueFrom v (b ∷ bs) = valueFrom (10 * v + (b - 48)) bs
 
+-- ... of a whole list of digits
 unfoldable pub value : List ℕ → ℕ
 value bs = valueFrom 0 bs
 

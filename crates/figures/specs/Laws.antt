@@ -6,6 +6,7 @@ use Prim.Native.Nat.{ℕ, suc, _≤_, _<_, _^_}
 use lib.IntN.{ℤ, natAbs}
 use Rattle.figures.specs.Figures.{figure, figureLength, signedFigureLength, value, isFigure}
 
+-- A written figure reads back as itself, one number has one text, and how many bytes it takes
 pub record Promised : Type 0 where
   -- reading a written figure gives the figure
   pub back : (x : ℕ) → value (figure x) ≡ x

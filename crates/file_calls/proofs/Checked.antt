@@ -1,23 +1,23 @@
 -- What feed and finish need, decided at run time, and the promises of `specs/Checking`. Assumes nothing.
 use mathlib.Core.Path.{_≡_, refl, sym, subst, _∙_}
+use mathlib.Core.Logic.{by-cases}
 use mathlib.Core.Bool.{Bool, true, false, false≢true, not}
 use mathlib.Core.List.{List}
-use Prim.Native.Nat.{ℕ, zero, suc, _≤_}
+use Prim.Native.Nat.{ℕ, _≤_}
 use native.Mathlib.Omega.{arith}
-use borrow.Author.Tests.{eqb-true, eqb-false}
+use native.Mathlib.Decide.{ℕ-discrete}
+use borrow.Author.Tests.{eqb-true, eqb-false, not-true, not-false}
 use lib.Dec.{eqb}
 use lib.ListN.{length}
 use Rattle.lines.specs.Fields.{longest}
 use Rattle.statement.specs.Statement.{roomFor}
 use Rattle.statement.specs.Writing.{Fills}
-use Rattle.file_lines.specs.declared.MonthFile.{MonthFile}
-use Rattle.file_calls.specs.declared.FeedAnswer.{FeedAnswer}
 use Rattle.month_file.specs.Bytes.{finished}
 use Rattle.file_lines.specs.State.{Lent, Valid}
 use Rattle.month_file.specs.Machine.{readingOf, Fed}
 use Rattle.month_file.specs.Run.{Place, Feeds}
 use Rattle.month_file.specs.Run as run
-use Rattle.file_calls.specs.Checking.{Decides, FileLists, FileRoom, FileNumber, FedAny, FinishNumber, FinishedAny, Answered, AnyPromised}
+use Rattle.file_calls.specs.Checking.{Decides, FileRoom, FileNumber, FedAny, FinishNumber, FinishedAny, Answered, AnyPromised}
 use Rattle.file_calls.specs.Checking as def
 use Rattle.month_file.proofs.Run.{promised}
 
@@ -41,77 +41,67 @@ by-value b r e = record { yes = λ t. sym e ∙ t; no = λ f t. false≢true (sy
 
 -- a call has decided, and `if !` has asked it
 pub denied : {holds : Type 0} (b : Bool) → Decides holds b → not b ≡ true → holds → ⊥
-denied true d e h = false≢true e
-denied false d e h = d .no refl h
+denied b d e = d .no (not-true b e)
 
 pub granted : {holds : Type 0} (b : Bool) → Decides holds b → not b ≡ false → holds
-granted true d e = d .yes refl
-granted false d e = absurd (false≢true (sym e))
+granted b d e = d .yes (not-false b e)
 
 -- ---- what is answered
 
-pub room : {f : MonthFile} {l : FileLists} {n : ℕ} → FileNumber f l n → (n ≡ 30 → ⊥) → FileRoom l
+pub room : {a : Place} {n : ℕ} → FileNumber a n → (n ≡ 30 → ⊥) → FileRoom a
 room (def.FileNumber.short h) e = absurd (e refl)
 room (def.FileNumber.unknown r h) e = r
 room (def.FileNumber.good r v) e = r
 
-pub no-room {ℓ} : {holds : Type ℓ} {f : MonthFile} {l : FileLists} {n : ℕ} → FileNumber f l n → n ≡ 30 → FileRoom l → holds
+pub no-room {ℓ} : {holds : Type ℓ} {a : Place} {n : ℕ} → FileNumber a n → n ≡ 30 → FileRoom a → holds
 no-room (def.FileNumber.short h) e r = absurd (h r)
 no-room (def.FileNumber.unknown r h) e _ = absurd (omega arith)
 no-room (def.FileNumber.good r v) e _ = absurd (omega arith)
 
-pub feed-good : {f : MonthFile} {l : FileLists} {n : ℕ} → FileNumber f l n → n ≡ 0 → (longest ≤ length (l .line)) × Valid f (l .held)
+pub feed-good : {a : Place} {n : ℕ} → FileNumber a n → n ≡ 0 → (longest ≤ length (a .line)) × Valid (a .file) (a .lists)
 feed-good (def.FileNumber.short h) e = absurd (omega arith)
 feed-good (def.FileNumber.unknown r h) e = absurd (omega arith)
 feed-good (def.FileNumber.good r v) e = (r .bytes, v)
 
-pub feed-refused : {f : MonthFile} {part : List ℕ} {l : FileLists} {n : ℕ} → FileNumber f l n → (n ≡ 0 → ⊥)
-    → FedAny f part l (record { number = n; file = f }) l
-feed-refused k h = record { number = k; refused = λ _. (refl, refl); taken = λ e. absurd (h e) }
+pub feed-refused : {a : Place} {part : List ℕ} {n : ℕ} → FileNumber a n → (n ≡ 0 → ⊥) → FedAny a part n a
+feed-refused k h = record { number = k; refused = λ _. refl; taken = λ e. absurd (h e) }
 
-pub feed-taken : (f r : MonthFile) (part : List ℕ) (l after : FileLists) {n : ℕ} → FileNumber f l n → n ≡ 0
-    → Fed f (l .held) (l .line) part r (after .held) (after .line) → FedAny f part l (record { number = 0; file = r }) after
-feed-taken f r part l after k e g =
-    record { number = subst (λ (n : ℕ). FileNumber f l n) e k; refused = λ h. absurd (h refl); taken = λ _. g }
+pub feed-taken : {a b : Place} {part : List ℕ} {n : ℕ} → FileNumber a n → n ≡ 0 → Fed (a .file) (a .lists) (a .line) part (b .file) (b .lists) (b .line)
+    → FedAny a part 0 b
+feed-taken {a} k e g = record { number = subst (λ (n : ℕ). FileNumber a n) e k; refused = λ h. absurd (h refl); taken = λ _. g }
 
-pub finish-good : {f : MonthFile} {l : FileLists} {text : List ℕ} {n : ℕ} → FinishNumber f l text n → n ≡ 0
-    → ((longest ≤ length (l .line)) × (roomFor 512 ≤ length text)) × Valid f (l .held)
+pub finish-good : {a : Place} {text : List ℕ} {n : ℕ} → FinishNumber a text n → n ≡ 0
+    → ((longest ≤ length (a .line)) × (roomFor 512 ≤ length text)) × Valid (a .file) (a .lists)
 finish-good (def.FinishNumber.narrow r h) e = absurd (omega arith)
 finish-good (def.FinishNumber.wide w k) e = let g = feed-good k e in ((g .0, w (room k (λ t. omega (arith, e, t)))), g .1)
 
-pub finish-refused : {f : MonthFile} {l : FileLists} {text : List ℕ} {n : ℕ} → FinishNumber f l text n → (n ≡ 0 → ⊥)
-    → FinishedAny f l text (record { number = n; length = 0 }) text
+pub finish-refused : {a : Place} {text : List ℕ} {n : ℕ} → FinishNumber a text n → (n ≡ 0 → ⊥) → FinishedAny a text (record { number = n; length = 0 }) text
 finish-refused k h = record { number = k; refused = λ _. (refl, refl); written = λ e. absurd (h e) }
 
-pub finish-written : (f : MonthFile) (l : FileLists) (text after : List ℕ) (m : ℕ) {n : ℕ} → FinishNumber f l text n → n ≡ 0
-    → Fills (finished (readingOf f (l .held) (l .line))) text m after → FinishedAny f l text (record { number = 0; length = m }) after
-finish-written f l text after m k e w =
-    record { number = subst (λ (n : ℕ). FinishNumber f l text n) e k; refused = λ h. absurd (h refl); written = λ _. w }
+pub finish-written : {a : Place} {text after : List ℕ} {m n : ℕ} → FinishNumber a text n → n ≡ 0
+    → Fills (finished (readingOf (a .file) (a .lists) (a .line))) text m after → FinishedAny a text (record { number = 0; length = m }) after
+finish-written {a} {text} k e w =
+    record { number = subst (λ (n : ℕ). FinishNumber a text n) e k; refused = λ h. absurd (h refl); written = λ _. w }
 
 -- ---- a file from its first part on
 
-step : {f : MonthFile} {part : List ℕ} {l after : FileLists} {r : FeedAnswer} → FedAny f part l r after → (Lent (l .held) → Valid f (l .held))
-    → Lent (after .held) → Valid (r .file) (after .held)
-step {f} {part} {l} {after} {r} s h lent = by (r .number) refl
-  where
-    by : (n : ℕ) → r .number ≡ n → Valid (r .file) (after .held)
-    by zero e = s .taken e .valid
-    by (suc n) e =
-        let q = s .refused (λ z. omega (arith, e, z)) in
-        subst (λ (g : MonthFile). Valid g (after .held)) (sym (q .0))
-        (subst (λ (x : FileLists). Valid f (x .held)) (sym (q .1)) (h (subst (λ (x : FileLists). Lent (x .held)) (q .1) lent)))
+-- state and lists fit together where the lists are long enough, so 31 is not answered
+abbrev Known : Place → Type 0
+Known a = Lent (a .lists) → Valid (a .file) (a .lists)
 
-places : {holds : ℕ → Type 0} {a b : Place} {parts : List (List ℕ)} → (Lent (a .lists) → Valid (a .file) (a .lists)) → Answered holds a parts b
-    → Lent (b .lists) → Valid (b .file) (b .lists)
+step : {a b : Place} {part : List ℕ} {n : ℕ} → FedAny a part n b → Known a → Known b
+step {n = n} s h = by-cases (ℕ-discrete n 0) (λ z _. s .taken z .valid) (λ ne. subst Known (sym (s .refused ne)) h)
+
+places : {holds : ℕ → Type 0} {a b : Place} {parts : List (List ℕ)} → Known a → Answered holds a parts b → Known b
 places h def.Answered.none = h
 places h (def.Answered.more s z rest) = places (step s h) rest
 
-known : {f : MonthFile} {l : FileLists} {n : ℕ} → (Lent (l .held) → Valid f (l .held)) → FileNumber f l n → n ≡ 31 → ⊥
+known : {a : Place} {n : ℕ} → Known a → FileNumber a n → n ≡ 31 → ⊥
 known v (def.FileNumber.short h) e = omega arith
 known v (def.FileNumber.unknown r h) e = h (v (r .lent))
 known v (def.FileNumber.good r h) e = omega arith
 
-known-end : {f : MonthFile} {l : FileLists} {text : List ℕ} {n : ℕ} → (Lent (l .held) → Valid f (l .held)) → FinishNumber f l text n → n ≡ 31 → ⊥
+known-end : {a : Place} {text : List ℕ} {n : ℕ} → Known a → FinishNumber a text n → n ≡ 31 → ⊥
 known-end v (def.FinishNumber.narrow r h) e = omega arith
 known-end v (def.FinishNumber.wide w k) e = known v k e
 

@@ -3,6 +3,8 @@ use file_lines::MonthFile;
 use ledger::ACCOUNTS;
 use ledger::ALLOTTED;
 use lines::fields::LONGEST;
+use lists::PERIODS;
+use lists::PLANTS;
 use month::Month;
 use month::stages::is_open;
 use month::stating::room_for;
@@ -10,23 +12,25 @@ use month_file::feeding::feed;
 use month_file::finishing::finish;
 use questions::periods_in_limits;
 use questions::rows_number;
+use records::COLUMNS;
 ghost use Rattle.file_lines.specs.State.{kept, Lent, Gathering, Counted, Settling, Valid};
-ghost use Rattle.file_calls.specs.Checking.{Decides, fileLists, FileNumber, FedAny, FinishNumber, FinishedAny};
+ghost use Rattle.month_file.specs.Run.{place};
+ghost use Rattle.file_calls.specs.Checking.{Decides, FileNumber, FedAny, FinishNumber, FinishedAny};
 
 // Are the lists of what was read long enough for every month?
 fn are_lent(columns: &[u64], profile: &[u64], allotted: &[u64], accounts: &[i64]) -> bool
     ensures { λ r. ⌜ Decides (Lent (kept (now (columns .entry)) (now (profile .entry)) (now (allotted .entry)) (now (accounts .entry)))) r ⌝ }
 {
-    if columns.len() < 2560 {
+    if columns.len() < COLUMNS {
         return false;
     }
-    if profile.len() < 744 {
+    if profile.len() < PERIODS {
         return false;
     }
-    if allotted.len() < ALLOTTED * 512 {
+    if allotted.len() < ALLOTTED * PLANTS {
         return false;
     }
-    if accounts.len() < ACCOUNTS * 512 {
+    if accounts.len() < ACCOUNTS * PLANTS {
         return false;
     }
     true
@@ -36,10 +40,10 @@ fn are_lent(columns: &[u64], profile: &[u64], allotted: &[u64], accounts: &[i64]
 fn is_gathering(file: MonthFile) -> bool
     ensures { λ r. ⌜ Decides (Gathering file) r ⌝ }
 {
-    if 512 < file.plants {
+    if (PLANTS as u64) < file.plants {
         return false;
     }
-    if 744 < file.periods {
+    if (PERIODS as u64) < file.periods {
         return false;
     }
     if file.plants < file.rows as u64 {
@@ -62,7 +66,7 @@ fn is_counted(month: Month, count: u64) -> bool
     if !is_open(stage) {
         return false;
     }
-    if 512 < month.plants {
+    if (PLANTS as u64) < month.plants {
         return false;
     }
     if !periods_in_limits(month.periods) {
@@ -137,7 +141,7 @@ fn file_number(
     allotted: &[u64],
     accounts: &[i64],
 ) -> u64
-    ensures { λ r. ⌜ FileNumber file (fileLists (now (line .entry)) (now (columns .entry)) (now (profile .entry)) (now (allotted .entry)) (now (accounts .entry))) r ⌝ }
+    ensures { λ r. ⌜ FileNumber (place file (kept (now (columns .entry)) (now (profile .entry)) (now (allotted .entry)) (now (accounts .entry))) (now (line .entry))) r ⌝ }
 {
     if line.len() < LONGEST {
         return 30;
@@ -167,7 +171,7 @@ pub fn feed_any(
     allotted: &mut [u64],
     accounts: &mut [i64],
 ) -> FeedAnswer
-    ensures { λ r. ⌜ FedAny file (now (part .entry)) (fileLists (now (line .entry)) (now (columns .entry)) (now (profile .entry)) (now (allotted .entry)) (now (accounts .entry))) r (fileLists (now (line .exit)) (now (columns .exit)) (now (profile .exit)) (now (allotted .exit)) (now (accounts .exit))) ⌝ }
+    ensures { λ r. ⌜ FedAny (place file (kept (now (columns .entry)) (now (profile .entry)) (now (allotted .entry)) (now (accounts .entry))) (now (line .entry))) (now (part .entry)) (r .number) (place (r .file) (kept (now (columns .exit)) (now (profile .exit)) (now (allotted .exit)) (now (accounts .exit))) (now (line .exit))) ⌝ }
 {
     let no = file_number(file, line, columns, profile, allotted, accounts);
     if no != 0 {
@@ -190,22 +194,23 @@ fn finish_number(
     accounts: &[i64],
     text: &[u8],
 ) -> u64
-    ensures { λ r. ⌜ FinishNumber file (fileLists (now (line .entry)) (now (columns .entry)) (now (profile .entry)) (now (allotted .entry)) (now (accounts .entry))) (now (text .entry)) r ⌝ }
+    ensures { λ r. ⌜ FinishNumber (place file (kept (now (columns .entry)) (now (profile .entry)) (now (allotted .entry)) (now (accounts .entry))) (now (line .entry))) (now (text .entry)) r ⌝ }
 {
     let no = file_number(file, line, columns, profile, allotted, accounts);
     if no == 30 {
         return no;
     }
-    if (text.len() as u64) < room_for(512) {
+    if (text.len() as u64) < room_for(PLANTS as u64) {
         return 22;
     }
     no
 }
 
-// What `finish_any` answers: the number, and how many bytes were written.
+// What `finish_any` answers, and C as it is: the number, and how many bytes were written.
+#[repr(C)]
 pub struct FinishAnswer {
     pub number: u64,
-    pub length: usize,
+    pub length: u64,
 }
 
 // The input has ended, with a state and lists that may hold anything.
@@ -218,7 +223,7 @@ pub fn finish_any(
     accounts: &[i64],
     text: &mut [u8],
 ) -> FinishAnswer
-    ensures { λ r. ⌜ FinishedAny file (fileLists (now (line .entry)) (now (columns .entry)) (now (profile .entry)) (now (allotted .entry)) (now (accounts .entry))) (now (text .entry)) r (now (text .exit)) ⌝ }
+    ensures { λ r. ⌜ FinishedAny (place file (kept (now (columns .entry)) (now (profile .entry)) (now (allotted .entry)) (now (accounts .entry))) (now (line .entry))) (now (text .entry)) r (now (text .exit)) ⌝ }
 {
     let no = finish_number(file, line, columns, profile, allotted, accounts, text);
     if no != 0 {
@@ -228,5 +233,8 @@ pub fn finish_any(
         };
     }
     let length = finish(file, line, columns, profile, allotted, accounts, text);
-    FinishAnswer { number: 0, length }
+    FinishAnswer {
+        number: 0,
+        length: length as u64,
+    }
 }

@@ -63,12 +63,12 @@ module _ {claim : Type 0} (k : ℕ) (p : Progress) (l : FileLine) (ls : List Fil
       subst (λ (q : Progress). Followed claim (k + 1) ls (following (k + 1) q ls)) (sym (reads (k + 1) p l e))
       (by-number (readNumber (l .bytes) 513) (k + 1) _ ls (λ z. by-turn z (l .ended) _ refl refl))
 
-pub line-taken : (k : ℕ) (p : Progress) (l : List ℕ) (ls : List FileLine) → isRefused p ≡ false → readNumber l 513 ≡ 0
-    → inTurn p (lineStart l) (figuresOf l) ≡ true → following k p (whole l ∷ ls) ≡ following (k + 1) (taken (k + 1) p (figuresOf l)) ls
+pub line-taken : (k : ℕ) (p : Progress) (l : List ℕ) (ls : List FileLine) {q : Progress} → isRefused p ≡ false → readNumber l 513 ≡ 0
+    → inTurn p (lineStart l) (figuresOf l) ≡ true → taken (k + 1) p (figuresOf l) ≡ q → following k p (whole l ∷ ls) ≡ following (k + 1) q ls
 unfolding following read
-line-taken k p l ls e z t =
+line-taken k p l ls e z t d =
     ap (λ (q : Progress). following (k + 1) q ls)
-    (reads (k + 1) p (whole l) e ∙ accepted _ _ _ z ∙ ap (λ (b : Bool). cond b (taken (k + 1) p (figuresOf l)) (refuses (k + 1) 31)) t)
+    (reads (k + 1) p (whole l) e ∙ accepted _ _ _ z ∙ ap (λ (b : Bool). cond b (taken (k + 1) p (figuresOf l)) (refuses (k + 1) 31)) t ∙ d)
 
 -- ---- lines of a whole file
 

@@ -14,16 +14,16 @@ use Rattle.hour.specs.declared.Plant.{Plant}
 use Rattle.ledger.specs.Ledger.{Ledger}
 use Rattle.month.specs.declared.Month.{Month}
 use Rattle.month.specs.Questions.{closeNumber}
-use Rattle.month.specs.Calls.{SettleEnd, settleCall, closeCall}
-use Rattle.statement.specs.Statement.{statementText}
+use Rattle.month.specs.Calls.{onward, SettleEnd, settleCall, closeCall}
+use Rattle.month.specs.Statement.{statementOf}
 use Rattle.demand.specs.Tally as call
 use Rattle.demand.specs.Tally.{State, number, after, entries}
-use Rattle.file_lines.specs.File.{FileLine, whole, Progress, settles, figuresOf, meterTurn, inTurn, taken, refusal, printed, following}
+use Rattle.file_lines.specs.File.{FileLine, whole, settles, figuresOf, meterTurn, inTurn, taken, refusal, printed, following}
 use Rattle.file_lines.specs.File as file
 use Rattle.file_lines.specs.State.{isRefused}
 use Rattle.file_demand.specs.Sums.{meteredIn, hourCalls, Accepted, Rising, Readable}
 use Rattle.month.proofs.Accepted.{settle-number, close-number}
-use Rattle.file_lines.proofs.Settled.{onward, settle-month}
+use Rattle.file_lines.proofs.Settled.{settle-month}
 use Rattle.file_demand.proofs.Followed.{Followed, holds, on, later, stopped, ended-early, by-number, IsRead, by-line, line-taken, AreLines, next-line, no-lines, one-line, after-one, rising-as}
 
 abbrev state : Month → Ledger → State
@@ -52,13 +52,13 @@ module _ (plants : List Plant) (profile : List ℕ) (m : Month) (l : Ledger) whe
       }
 
   by-close : (k n : ℕ) → m .due ≡ m .periods + 1 → closeCall m .number ≡ n
-      → Followed (Metered plants profile m l []) k [] (outcome n (statementText (closeCall m .month .due - 1) plants l) (refusal k))
+      → Followed (Metered plants profile m l []) k [] (outcome n (statementOf (closeCall m .month) plants l) (refusal k))
   unfolding outcome following printed
   by-close k zero e z = holds (closes e z)
   by-close k (suc n) e z = stopped k n []
 
   by-end : (k : ℕ) (b : Bool) → eqb (m .due) (m .periods + 1) ≡ b
-      → Followed (Metered plants profile m l []) k [] (cond b (outcome (closeCall m .number) (statementText (closeCall m .month .due - 1) plants l) (refusal k)) (refusal (k + 1) 31))
+      → Followed (Metered plants profile m l []) k [] (cond b (outcome (closeCall m .number) (statementOf (closeCall m .month) plants l) (refusal k)) (refusal (k + 1) 31))
   by-end k true e = by-close k (closeCall m .number) (eqb-true (m .due) (m .periods + 1) e) refl
   by-end k false e = ended-early k
 
@@ -127,7 +127,7 @@ metering k plants profile m l (x ∷ ls) =
 pub metered : (plants : List Plant) (profile : List ℕ) (k : ℕ) (m : Month) (l : Ledger) (gs : List (List ℕ)) → Due m gs → Readable (map whole gs)
     → Accepted (state m l) (hourCalls plants profile (meteredIn gs))
     → let s = after (state m l) (hourCalls plants profile (meteredIn gs)) in
-    following k (settles plants profile m l) (map whole gs) ≡ statementText (s .month .due - 1) plants (s .ledger)
+    following k (settles plants profile m l) (map whole gs) ≡ statementOf (s .month) plants (s .ledger)
 unfolding following printed isRefused inTurn taken file.settled number call.next after entries
 metered plants profile k m l [] d r a =
     let z : closeCall m .number ≡ 0 = head-eq-of-cons-eq a in
@@ -136,6 +136,5 @@ metered plants profile k m l (g ∷ gs) d r a =
     let e = end plants profile m l g in
     let z : e .answer .number ≡ 0 = head-eq-of-cons-eq a in
     let t = due-one plants profile m l g z gs d in
-    line-taken k (settles plants profile m l) g (map whole gs) refl (head-eq-of-cons-eq r) (turn-is plants profile m l g (t .0))
-    ∙ ap (λ (p : Progress). following (k + 1) p (map whole gs)) (accepted _ _ _ z)
+    line-taken k (settles plants profile m l) g (map whole gs) refl (head-eq-of-cons-eq r) (turn-is plants profile m l g (t .0)) (accepted _ _ _ z)
     ∙ metered plants profile (k + 1) (e .answer .month) (e .ledger) gs (t .1) (tail-eq-of-cons-eq r) (tail-eq-of-cons-eq a)

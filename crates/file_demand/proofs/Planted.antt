@@ -45,9 +45,6 @@ all-rows s plants ls h r =
 abbrev wider : List Plant → List ℕ → List Plant
 wider plants x = plants ++ (plantOf (figuresOf x) ∷ [])
 
-one-wider : (plants : List Plant) (x : List ℕ) → length (wider plants x) ≡ length plants + 1
-one-wider plants x = length-append plants (plantOf (figuresOf x) ∷ [])
-
 -- a P line in turn
 more-rows : (s : Sizes) (plants : List Plant) → length plants < s .plants → (x : FileLine) (ls : List FileLine) → IsRead x → lineStart (x .bytes) ≡ 2
     → Planted s (wider plants (x .bytes)) ls → Planted s plants (x ∷ ls)
@@ -65,7 +62,7 @@ more-rows s plants h x ls w is2 r =
     }
   where
     one-less : suc (s .plants - length (wider plants (x .bytes))) ≡ s .plants - length plants
-    one-less = omega (arith, h, one-wider plants (x .bytes))
+    one-less = omega (arith, h, length-append plants (plantOf (figuresOf (x .bytes)) ∷ []))
 
 row-taken : (s : Sizes) (plants : List Plant) → ltb (length plants) (s .plants) ≡ true → (k : ℕ) (x : List ℕ)
     → taken k (gathers s plants []) (figuresOf x) ≡ gathers s (wider plants x) []
@@ -114,9 +111,8 @@ module _ (s : Sizes) (some-period : 0 < s .periods) where
       let q = copied (s .plants - length plants) 2 (lineStart x) (map lineStart ps) p in
       let here = q .1 in
       let due = lt-ltb (length plants) (s .plants) (omega (arith, here)) in
-      let less : q .0 ≡ s .plants - length (wider plants x) = omega (arith, here, one-wider plants x) in
-      line-taken k (gathers s plants []) x (map whole (ps ++ (hs ++ gs))) refl (head-eq-of-cons-eq r) (row-turn plants x due (q .2))
-      ∙ ap (λ (q : Progress). following (k + 1) q (map whole (ps ++ (hs ++ gs)))) (row-taken s plants due (k + 1) x)
+      let less : q .0 ≡ s .plants - length (wider plants x) = omega (arith, here, length-append plants (plantOf (figuresOf x) ∷ [])) in
+      line-taken k (gathers s plants []) x (map whole (ps ++ (hs ++ gs))) refl (head-eq-of-cons-eq r) (row-turn plants x due (q .2)) (row-taken s plants due (k + 1) x)
       ∙ subst (λ (t : List Plant). Stating (k + 1) (gathers s (wider plants x) []) (ps ++ (hs ++ gs)) t (profileIn hs) (s .tariff) gs)
       (append-assoc plants (plantOf (figuresOf x) ∷ []) (plantsIn ps))
       (planted (k + 1) (wider plants x) ps hs gs (q .3 ∙ ap (λ (n : ℕ). replicate n 2) less) h g (tail-eq-of-cons-eq r)) a

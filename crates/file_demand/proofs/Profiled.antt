@@ -12,9 +12,8 @@ use Rattle.lines.specs.Reading.{lineStart}
 use Rattle.hour.specs.declared.Plant.{Plant}
 use Rattle.ledger.specs.Ledger.{zeros}
 use Rattle.month.specs.declared.Month.{Month}
-use Rattle.month.specs.declared.Stage.the-variants.{Open}
 use Rattle.month.specs.Questions.{openNumber}
-use Rattle.month.specs.Calls.{blank, OpenEnd, openCall}
+use Rattle.month.specs.Calls.{blank, openedMonth, OpenEnd, openCall}
 use Rattle.demand.specs.Tally as call
 use Rattle.demand.specs.Tally.{number, after, entries}
 use Rattle.file_lines.specs.File.{FileLine, whole, Sizes, Progress, gathers, figuresOf, inTurn, opened, taken, printed, following}
@@ -38,7 +37,7 @@ module _ (plants : List Plant) (profile : List ℕ) (tariff : ℕ) where
   isOpened = openCall blank plants profile tariff (zeros (length plants))
 
   opened-month : isOpened .answer .number ≡ 0
-      → isOpened .answer .month ≡ record { stage = Open; plants = length plants; periods = length profile; tariff = tariff; due = 1 }
+      → isOpened .answer .month ≡ openedMonth (length plants) (length profile) tariff
   unfolding openCall
   opened-month z =
       let open-zero : openNumber blank plants profile tariff (zeros (length plants)) ≡ 0 = sym (open-number blank plants profile tariff (zeros (length plants))) ∙ z in
@@ -150,8 +149,7 @@ module _ (s : Sizes) (plants : List Plant) (full : ltb (length plants) (s .plant
       let q = after-one h in
       let some = q .1 in
       rw (ne-eqb (length profile) (s .periods) (λ e. omega (arith, some, e)))
-      (line-taken k (gathers s plants profile) x (map whole (hs ++ gs)) refl (head-eq-of-cons-eq r) (hour-turn profile x (q .2) (q .3))
-      ∙ ap (λ (p : Progress). following (k + 1) p (map whole (hs ++ gs))) (hour-taken (k + 1) profile x)
+      (line-taken k (gathers s plants profile) x (map whole (hs ++ gs)) refl (head-eq-of-cons-eq r) (hour-turn profile x (q .2) (q .3)) (hour-taken (k + 1) profile x)
       ∙ subst (λ (p : List ℕ). Stating (k + 1) (gathered (k + 1) (longer profile x)) (hs ++ gs) plants p (s .tariff) gs)
       (append-assoc profile (getD (figuresOf x) 1 0 ∷ []) (profileIn hs))
       (profiled (k + 1) (longer profile x) hs gs (omega (arith, some, one-more profile x))

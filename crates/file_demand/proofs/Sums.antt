@@ -16,7 +16,7 @@ use Rattle.questions.specs.Questions.{sizesNumber}
 use Rattle.questions.proofs.Asked as question
 use Rattle.month.specs.Questions.{openNumber}
 use Rattle.demand.specs.Tally.{number, entries}
-use Rattle.file_lines.specs.File.{FileLine, whole, lines, Progress, begins, inTurn, begun, taken, refusal, printed, following, settledFile}
+use Rattle.file_lines.specs.File.{FileLine, whole, lines, begins, inTurn, begun, taken, refusal, printed, following, settledFile}
 use Rattle.file_lines.specs.State.{isRefused}
 use Rattle.file_demand.specs.Sums.{sizesIn, plantsIn, profileIn, meteredIn, Readable, WholeFile, SettledAs, SettledAs·holds, Outcome, settled, refused, Outcome·holds}
 use Rattle.month.proofs.Accepted.{open-number}
@@ -52,8 +52,7 @@ module _ {ls : List FileLine} (w : WholeFile ls) where
       let given = w .plantLines ++ (w .profileLines ++ w .meterLines) in
       let r = subst (λ (l : List FileLine). Readable l) (w .isFile) (w .readable) in
       ap (following 0 begins) (w .isFile)
-      ∙ line-taken 0 begins (w .first) (map whole given) refl (head-eq-of-cons-eq r) (eq-eqb _ _ (w .begins))
-      ∙ ap (λ (p : Progress). following 1 p (map whole given)) (accepted _ _ _ sizes-zero)
+      ∙ line-taken 0 begins (w .first) (map whole given) refl (head-eq-of-cons-eq r) (eq-eqb _ _ (w .begins)) (accepted _ _ _ sizes-zero)
       ∙ planted (sizesIn (w .first)) (question.sizes _ _ _ _ refl sizes-zero .somePeriods) 1 [] (w .plantLines) (w .profileLines) (w .meterLines)
       (w .rows ∙ ap (λ (n : ℕ). replicate n 2) (sym (sub-zero (sizesIn (w .first) .plants)))) (w .profile) (w .meters) (tail-eq-of-cons-eq r) (w .accepted)
 

@@ -9,6 +9,7 @@ use lib.ListN.{length, replicate}
 use Rattle.lists.proofs.Questions.{accepted}
 use Rattle.hour.specs.declared.Plant.{Plant}
 use Rattle.hour.specs.Hour.{Hour, hourOf}
+use Rattle.month.specs.Statement.{statementOf}
 use Rattle.statement.specs.Statement.{statementText}
 use Rattle.demand.specs.Tally.{Call, opens, settles, State, next, after, Entry, entries, Tally, tallied, tally, hoursAfter, hours, summed, IsTally, Left}
 use Rattle.demand.proofs.Demand.{demand3}
@@ -16,7 +17,7 @@ use Rattle.file_demand.specs.Sums.{hourCalls, fileCalls, unopened, Accep
 
 -- what is printed after the calls of a file
 abbrev pub textOf : List Plant → List ℕ → ℕ → List (List ℕ) → List ℕ
-textOf plants profile tariff metered = let s = after (unopened plants) (fileCalls plants profile tariff metered) in statementText (s .month .due - 1) plants (s .ledger)
+textOf plants profile tariff metered = let s = after (unopened plants) (fileCalls plants profile tariff metered) in statementOf (s .month) plants (s .ledger)
 
 hours-length : (plants : List Plant) (profile : List ℕ) (hs : List Hour) (gs : List (List ℕ)) → length (fileHours plants profile hs gs) ≡ length hs + length gs
 unfolding fileHours
@@ -80,6 +81,7 @@ module _ (plants : List Plant) (profile : List ℕ) (tariff : ℕ) (metered : Li
       (demand3 (unopened plants) refl calls .left))
 
   pub states : (text : List ℕ) → text ≡ textOf plants profile tariff metered → Stated plants profile tariff metered text
+  unfolding statementOf
   states text e =
       record {
         isStatement = e ∙ ap (λ (n : ℕ). statementText n plants (after (unopened plants) calls .ledger)) is-count;

@@ -107,5 +107,6 @@ pub data Outcome (ls : List FileLine) (text : List ℕ) : Type 0 where
   settled : (w : WholeFile ls) → SettledAs w text → Outcome ls text
   refused : (line number : ℕ) → 1 ≤ line → line ≤ length ls + 1 → 0 < number → text ≡ refusal line number → (WholeFile ls → ⊥) → Outcome ls text
 
+-- ... of every file
 abbrev pub Outcome·holds : Type 0
 Outcome·holds = (bytes : List ℕ) → Outcome (lines bytes) (settledFile bytes)

@@ -16,7 +16,7 @@ use Rattle.records.proofs.Figures.{length-rows, rows-put}
 use Rattle.file_lines.specs.declared.MonthFile.{MonthFile}
 use Rattle.file_lines.specs.File.{Progress, gathers, plantOf, opened, taken}
 use Rattle.file_lines.specs.State.{Kept, kept, sizesOf, progressOf, Lent, Gathering, Valid, Moved, atStage, Openable, openedOf}
-use Rattle.file_lines.proofs.Moves.{valid-gathering, gathered, moved-as}
+use Rattle.file_lines.proofs.Moves.{lent-as, gathered, moved-as, gathers-moved}
 
 pub gathers-is : (f : MonthFile) (k : Kept) → f .stage ≡ 1 → progressOf f k ≡ gathers (sizesOf f) (rowsOf (f .rows) (k .columns)) (take (f .figures) (k .profile))
 unfolding progressOf
@@ -40,13 +40,7 @@ module _ (f : MonthFile) (k : Kept) (stage : f .stage ≡ 1) (v : Valid f k) whe
     after = withColumns k columns
 
     lent : Lent after
-    lent =
-        record {
-          columns = omega (arith, v .lent .columns, ap length s, length-putRow (k .columns) (f .rows) (plantOf figures));
-          profile = v .lent .profile;
-          allotted = v .lent .allotted;
-          accounts = v .lent .accounts;
-        }
+    lent = lent-as (v .lent) (ap length s ∙ length-putRow (k .columns) (f .rows) (plantOf figures)) refl refl refl
 
     rows-after : rowsOf (f .rows + 1) columns ≡ rowsOf (f .rows) (k .columns) ++ (plantOf figures ∷ [])
     rows-after = ap (rowsOf (f .rows + 1)) s ∙ rows-put (f .rows) (k .columns) (plantOf figures) (omega (arith, h, g .plants)) (v .lent .columns)
@@ -55,23 +49,15 @@ module _ (f : MonthFile) (k : Kept) (stage : f .stage ≡ 1) (v : Valid f k) whe
     unfolding taken
     takes-row = rw (gathers-is f k stage, length-rows (f .rows) (k .columns), lt-ltb (f .rows) (f .plants) h)
 
-    row-stands : Moved f (gathers (sizesOf f) (rowsOf (f .rows) (k .columns) ++ (plantOf figures ∷ [])) (take (f .figures) (k .profile)))
-        (gathered (atStage f 1) (f .periods) (f .plants) (f .tariff) (f .rows + 1) (f .figures)) after
-    unfolding atStage progressOf
-    row-stands =
-        record {
-          empty = refl;
-          counted = refl;
-          stands = ap (λ (r : List Plant). gathers (sizesOf f) r (take (f .figures) (k .profile))) rows-after;
-          valid = valid-gathering _ after lent (omega arith) refl
-              (record { plants = g .plants; periods = g .periods; rows = omega (arith, h); figures = g .figures; counted = omega (arith, g .counted) });
-        }
-
     pub row-moved : (q : MonthFile) → q ≡ atStage f 1
         → Moved f (taken (f .count + 1) (progressOf f k) figures) (gathered q (q .periods) (q .plants) (q .tariff) (f .rows + 1) (q .figures)) after
     unfolding atStage
     row-moved q e =
-        moved-as f after lent row-stands (ap (λ (m : MonthFile). gathered m (m .periods) (m .plants) (m .tariff) (f .rows + 1) (m .figures)) (sym e)) (sym takes-row)
+        moved-as f after lent
+        (gathers-moved f after lent (f .periods) (f .plants) (f .tariff) (f .rows + 1) (f .figures)
+        (record { plants = g .plants; periods = g .periods; rows = omega (arith, h); figures = g .figures; counted = omega (arith, g .counted) }))
+        (ap (λ (m : MonthFile). gathered m (m .periods) (m .plants) (m .tariff) (f .rows + 1) (m .figures)) (sym e))
+        (ap (λ (r : List Plant). gathers (sizesOf f) r (take (f .figures) (k .profile))) rows-after ∙ sym takes-row)
 
   -- ---- an H line
 
@@ -83,13 +69,7 @@ module _ (f : MonthFile) (k : Kept) (stage : f .stage ≡ 1) (v : Valid f k) whe
     longer = withProfile k (set (k .profile) (f .figures) kwh)
 
     lent-longer : Lent longer
-    lent-longer =
-        record {
-          columns = v .lent .columns;
-          profile = omega (arith, v .lent .profile, length-set (k .profile) (f .figures) kwh);
-          allotted = v .lent .allotted;
-          accounts = v .lent .accounts;
-        }
+    lent-longer = lent-as (v .lent) refl (length-set (k .profile) (f .figures) kwh) refl refl
 
     all-rows : f .rows ≡ f .plants
     all-rows = omega (arith, g .rows, h)
@@ -113,24 +93,15 @@ module _ (f : MonthFile) (k : Kept) (stage : f .stage ≡ 1) (v : Valid f k) whe
     takes-figure =
         rw (gathers-is f k stage, length-rows (f .rows) (k .columns), le-ltb (f .rows) (f .plants) h, length-more)
 
-    figure-stands : f .figures + 1 < f .periods
-        → Moved f (gathers (sizesOf f) (rowsOf (f .rows) (k .columns)) more) (gathered (atStage f 1) (f .periods) (f .plants) (f .tariff) (f .rows) (f .figures + 1)) longer
-    unfolding atStage progressOf
-    figure-stands m =
-        record {
-          empty = refl;
-          counted = refl;
-          stands = ap (gathers (sizesOf f) (rowsOf (f .rows) (k .columns))) profile-after;
-          valid = valid-gathering _ longer lent-longer (omega arith) refl
-              (record { plants = g .plants; periods = g .periods; rows = g .rows; figures = m; counted = omega (arith, g .counted) });
-        }
-
     pub figure-moved : f .figures + 1 < f .periods → (q : MonthFile) → q ≡ atStage f 1
         → Moved f (taken (f .count + 1) (progressOf f k) figures) (gathered q (q .periods) (q .plants) (q .tariff) (q .rows) (f .figures + 1)) longer
     unfolding atStage
     figure-moved m q e =
-        moved-as f longer lent-longer (figure-stands m) (ap (λ (n : MonthFile). gathered n (n .periods) (n .plants) (n .tariff) (n .rows) (f .figures + 1)) (sym e))
-        (sym (takes-figure ∙ rw (ne-eqb (f .figures + 1) (f .periods) (λ z. omega arith))))
+        moved-as f longer lent-longer
+        (gathers-moved f longer lent-longer (f .periods) (f .plants) (f .tariff) (f .rows) (f .figures + 1)
+        (record { plants = g .plants; periods = g .periods; rows = g .rows; figures = m; counted = omega (arith, g .counted) }))
+        (ap (λ (n : MonthFile). gathered n (n .periods) (n .plants) (n .tariff) (n .rows) (f .figures + 1)) (sym e))
+        (ap (gathers (sizesOf f) (rowsOf (f .rows) (k .columns))) profile-after ∙ sym (takes-figure ∙ rw (ne-eqb (f .figures + 1) (f .periods) (λ z. omega arith))))
 
     -- the last
     module _ (m : f .periods ≤ f .figures + 1) where

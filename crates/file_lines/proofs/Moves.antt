@@ -1,20 +1,30 @@
 -- What the state stands for once a line is read. Assumes nothing.
 use mathlib.Core.Path.{_≡_, refl, sym, ap, subst}
-use mathlib.Core.List.{[]}
 use Prim.Native.Nat.{ℕ, zero, suc, _+_, _≤_}
 use native.Mathlib.Omega.{arith}
-use lib.ListN.{length}
+use lib.ListN.{length, take}
 use Rattle.lists.specs.Questions.{outcome}
 use Rattle.lists.proofs.Questions.{refuses, accepts}
 use Rattle.records.specs.Records.{rowsOf}
 use Rattle.month.specs.declared.Month.{Month}
 use Rattle.month.specs.Calls.{blank}
 use Rattle.questions.specs.Questions.{sizesNumber}
-use Rattle.questions.proofs.Asked.{Sizes, sizes}
+use Rattle.questions.proofs.Asked.{sizes}
 use Rattle.file_lines.specs.declared.MonthFile.{MonthFile}
 use Rattle.file_lines.specs.File as file
 use Rattle.file_lines.specs.File.{Progress, gathers, begun}
 use Rattle.file_lines.specs.State.{Kept, progressOf, Lent, Gathering, Settling, Valid, Moved, atStart, atStage, numbered, monthed, atRefusal, atCall}
+
+-- lists of the same lengths
+pub lent-as : {k q : Kept} → Lent k → length (q .columns) ≡ length (k .columns) → length (q .profile) ≡ length (k .profile)
+    → length (q .allotted) ≡ length (k .allotted) → length (q .accounts) ≡ length (k .accounts) → Lent q
+lent-as l a b c d =
+    record {
+      columns = omega (arith, l .columns, a);
+      profile = omega (arith, l .profile, b);
+      allotted = omega (arith, l .allotted, c);
+      accounts = omega (arith, l .accounts, d);
+    }
 
 -- ---- a state, by its stage
 
@@ -90,22 +100,21 @@ module _ (f : MonthFile) (k : Kept) (lent : Lent k) where
       → Moved f (outcome m y (file.refuses (f .count + 1))) r k
   refuses-by r n m y e q z = moved-as (refused-moved n) (sym e) (refuses n m y _ (file.refuses (f .count + 1)) q z refl)
 
-  -- the first line
-  begun-moved : (periods plants tariff : ℕ) → f .count ≡ 0 → Sizes plants periods tariff
-      → Moved f (gathers (record { periods = periods; plants = plants; tariff = tariff }) [] []) (gathered (atStage f 1) periods plants tariff 0 0) k
-  unfolding atStage progressOf rowsOf
-  begun-moved periods plants tariff none s =
-      record {
-        empty = refl;
-        counted = refl;
-        stands = refl;
-        valid = valid-gathering _ k lent (omega arith) refl
-            (record { plants = s .plants; periods = s .periods; rows = omega arith; figures = omega (arith, s .somePeriods); counted = omega (arith, none) });
-      }
+  -- a P or H line, or the first, after which others are due
+  pub gathers-moved : (periods plants tariff rows figures : ℕ) → Gathering (gathered (atStage f 1) periods plants tariff rows figures)
+      → Moved f (gathers (record { periods = periods; plants = plants; tariff = tariff }) (rowsOf rows (k .columns)) (take figures (k .profile)))
+      (gathered (atStage f 1) periods plants tariff rows figures) k
+  unfolding atStage progressOf
+  gathers-moved periods plants tariff rows figures g =
+      record { empty = refl; counted = refl; stands = refl; valid = valid-gathering _ k lent (omega arith) refl g }
 
+  -- the first line
   pub begins-by : (g : MonthFile) (periods plants tariff n : ℕ) → f .count ≡ 0 → n ≡ sizesNumber plants periods tariff → n ≡ 0 → g ≡ atStage f 1
       → Moved f (begun (f .count + 1) (record { periods = periods; plants = plants; tariff = tariff })) (gathered g periods plants tariff 0 0) k
-  unfolding begun
+  unfolding begun atStage rowsOf
   begins-by g periods plants tariff n none q z e =
-      moved-as (begun-moved periods plants tariff none (sizes plants periods tariff n q z)) (ap (λ (h : MonthFile). gathered h periods plants tariff 0 0) (sym e))
-      (accepts n (sizesNumber plants periods tariff) _ _ (file.refuses (f .count + 1)) q z refl)
+      let s = sizes plants periods tariff n q z in
+      moved-as
+      (gathers-moved periods plants tariff 0 0
+      (record { plants = s .plants; periods = s .periods; rows = omega arith; figures = omega (arith, s .somePeriods); counted = omega (arith, none) }))
+      (ap (λ (h : MonthFile). gathered h periods plants tariff 0 0) (sym e)) (accepts n (sizesNumber plants periods tariff) _ _ (file.refuses (f .count + 1)) q z refl)

@@ -2,7 +2,7 @@
 use mathlib.Core.Path.{_≡_, refl, sym, ap, _∙_}
 use mathlib.Core.Bool.{true}
 use mathlib.Core.List.{List}
-use Prim.Native.Nat.{ℕ, _+_, _*_, _≤_}
+use Prim.Native.Nat.{ℕ, _+_, _*_}
 use native.Mathlib.Omega.{arith}
 use lib.IntN.{ℤ}
 use lib.ListN.{length, take, replicate, length-replicate}
@@ -15,15 +15,15 @@ use Rattle.ledger.specs.Ledger.{Ledger, inBounds}
 use Rattle.month.specs.declared.Month.{Month}
 use Rattle.month.specs.declared.Settled.{Settled}
 use Rattle.month.specs.Questions.{settleNumber}
-use Rattle.month.specs.Calls.{SettleEnd, settleCall}
+use Rattle.month.specs.Calls.{onward, SettleEnd, settleCall}
 use Rattle.month.proofs.Accepted.{settle-number}
 use Rattle.month.proofs.Asked as question
 use Rattle.file_lines.specs.declared.MonthFile.{MonthFile}
 use Rattle.file_lines.specs.File as file
 use Rattle.file_lines.specs.File.{settles, settled}
-use Rattle.file_lines.specs.State.{Kept, ledgerOf, progressOf, Lent, Settling, Valid, Moved, atStage, monthed, atRefusal, atCall, settledOf}
-use Rattle.file_lines.proofs.Moves.{valid-settling, moved-as, refuses-by, called}
-use Rattle.file_lines.proofs.Opened.{withLedger, lent-after, ledger-after}
+use Rattle.file_lines.specs.State.{Kept, ledgerOf, Lent, Settling, Valid, Moved, atStage, monthed, atRefusal, atCall, settledOf}
+use Rattle.file_lines.proofs.Moves.{moved-as, refuses-by, called}
+use Rattle.file_lines.proofs.Opened.{withLedger, lent-after, ledger-after, settles-moved}
 
 -- of the allotment list settle asks the length alone
 settle-alike : (m : Month) (plants : List Plant) (profile metered lent other : List ℕ) (l : Ledger) → length lent ≡ length other
@@ -39,22 +39,17 @@ unfolding settleCall
 settle-same m plants profile metered lent other l p q = accepted _ _ _ p ∙ sym (accepted _ _ _ q)
 
 -- ... the month with the next period due
-abbrev pub onward : Month → Month
-onward m = record { stage = m .stage; plants = m .plants; periods = m .periods; tariff = m .tariff; due = m .due + 1 }
-
 pub settle-month : (m : Month) (plants : List Plant) (profile metered lent : List ℕ) (l : Ledger) → settleNumber m plants profile metered lent l ≡ 0
     → settleCall m plants profile metered lent l .answer .month ≡ onward m
 unfolding settleCall
 settle-month m plants profile metered lent l z = ap (λ (r : SettleEnd). r .answer .month) (accepted _ _ _ z)
 
--- ... and a ledger in its bounds, of a period that was due
-module _ (m : Month) (plants : List Plant) (profile metered lent : List ℕ) (l : Ledger) (z : settleNumber m plants profile metered lent l ≡ 0) where
-  settle-due : m .due ≤ m .periods
-  settle-due = question.settled m plants profile metered lent l z .0 .meter .due
-
-  settle-bounded : inBounds (settleCall m plants profile metered lent l .ledger) ≡ true
-  unfolding settleCall
-  settle-bounded = ap (λ (r : SettleEnd). inBounds (r .ledger)) (accepted _ _ _ z) ∙ question.settled m plants profile metered lent l z .1 .1
+-- ... and a ledger in its bounds
+settle-bounded : (m : Month) (plants : List Plant) (profile metered lent : List ℕ) (l : Ledger) → settleNumber m plants profile metered lent l ≡ 0
+    → inBounds (settleCall m plants profile metered lent l .ledger) ≡ true
+unfolding settleCall
+settle-bounded m plants profile metered lent l z =
+    ap (λ (r : SettleEnd). inBounds (r .ledger)) (accepted _ _ _ z) ∙ question.settled m plants profile metered lent l z .1 .1
 
 module _ (f : MonthFile) (k : Kept) (stage : f .stage ≡ 2) (v : Valid f k) (metered lent : List ℕ) (end : Settled) (ds ys : List ℕ) (zs : List ℤ)
     (few : length lent ≡ 4 * f .month .plants)
@@ -117,34 +112,21 @@ module _ (f : MonthFile) (k : Kept) (stage : f .stage ≡ 2) (v : Valid f k) (me
     settles-on =
         ap (λ (r : SettleEnd). outcome (r .answer .number) (settles rows profile (r .answer .month) (r .ledger)) (file.refuses (f .count + 1))) (sym left) ∙ rw z
 
-    stands : progressOf (monthed (atStage f 2) (onward m)) after ≡ settles rows profile (onward m) (record { allotted = ys; accounts = zs })
-    unfolding progressOf atStage
-    stands = ap (settles rows profile (onward m)) ledger-is
-
-    settled-moved : Moved f (settledOf f k metered) (monthed (atStage f 2) (onward m)) after
-    unfolding atStage
-    settled-moved =
-        record {
-          empty = refl;
-          counted = refl;
-          stands = stands ∙ ap (λ (n : Month). settles rows profile n (record { allotted = ys; accounts = zs })) (sym month-is) ∙ sym settles-on;
-          valid = valid-settling _ after lents (omega arith) refl
-              (record {
-                counted = record {
-                  isOpened = g .counted .isOpened;
-                  plants = g .counted .plants;
-                  some = g .counted .some;
-                  periods = g .counted .periods;
-                  due = omega (arith, settle-due m rows profile metered lent ledger none);
-                  lines = omega (arith, g .counted .lines);
-                };
-                rows = g .rows;
-                bounded = ap inBounds ledger-is ∙ ap (λ (r : SettleEnd). inBounds (r .ledger)) e ∙ settle-bounded m rows profile metered lent ledger none;
-              });
-        }
-
     settling-settled : Moved f (settledOf f k metered) (monthed (atStage f 2) (end .month)) after
-    settling-settled = moved-as f after lents settled-moved (ap (monthed (atStage f 2)) (sym month-is)) refl
+    settling-settled =
+        moved-as f after lents
+        (settles-moved f after lents (onward m) ledger-is
+        (record {
+          isOpened = g .counted .isOpened;
+          plants = g .counted .plants;
+          some = g .counted .some;
+          periods = g .counted .periods;
+          due = omega (arith, question.settled m rows profile metered lent ledger none .0 .meter .due);
+          lines = omega (arith, g .counted .lines);
+        })
+        (g .rows) (ap (λ (r : SettleEnd). inBounds (r .ledger)) e ∙ settle-bounded m rows profile metered lent ledger none))
+        (ap (monthed (atStage f 2)) (sym month-is))
+        (ap (λ (n : Month). settles rows profile n (record { allotted = ys; accounts = zs })) (sym month-is) ∙ sym settles-on)
 
   pub settling-called : {r : MonthFile} → r ≡ atCall f (end .number) (end .month) → Moved f (settledOf f k metered) r after
   settling-called = called f (end .number) (end .month) (λ r. Moved f (settledOf f k metered) r after) settling-refused settling-settled

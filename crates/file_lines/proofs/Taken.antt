@@ -1,12 +1,14 @@
 -- A line that is read and, in turn, taken. Assumes nothing.
 use mathlib.Core.Path.{_≡_, refl, sym, ap, _∙_}
+use mathlib.Core.Logic.{by-cases}
 use mathlib.Core.Bool.{Bool, true, false, cond}
 use mathlib.Core.List.{List, map}
 use Prim.Native.Nat.{ℕ, zero, suc, _+_, _-_, _≤_, _<_}
+use native.Mathlib.Decide.{decLt}
 use native.Mathlib.Omega.{arith}
-use borrow.Author.Tests.{eqb-true, lt-ltb, le-ltb, ltb-true, ltb-false}
-use lib.Dec.{eqb, ltb}
-use lib.ListN.{length, take, drop, getD, length-map, length-drop, List·getD-append}
+use borrow.Author.Tests.{eqb-true, lt-ltb, le-ltb}
+use lib.Dec.{eqb}
+use lib.ListN.{length, take, drop, getD, replicate, length-map, length-replicate, length-drop, List·getD-append}
 use lib.Seq.{length-take-le, take-at, take-all}
 use Rattle.lists.proofs.Questions.{accepted, both}
 use Rattle.figures.specs.Figures.{value}
@@ -117,20 +119,26 @@ module _ (f : MonthFile) (k : Kept) (v : Valid f k) (due : f .stage ≤ 2) where
     unfolding turn
     more e = let b = both (eqb start 4) _ (rw e at t) in meter-fields n (rw (eqb-true start 4 (b .0)) at fits) .0
 
-    gathering-some : f .stage ≡ 1 → (t : Bool) → ltb (f .rows) (f .plants) ≡ t → 2 ≤ n
-    gathering-some e true h = omega (arith, five e (ltb-true (f .rows) (f .plants) h))
-    gathering-some e false h = omega (arith, two e (ltb-false (f .rows) (f .plants) h))
+    gathering-some : f .stage ≡ 1 → 2 ≤ n
+    gathering-some e = by-cases (decLt (f .rows) (f .plants)) (λ h. omega (arith, five e h)) (λ h. omega (arith, two e (omega (arith, h))))
 
     figured : (figures : List ℕ) → length figures ≡ n → Figured f figures
     figured figures l =
         record {
           due = due;
-          some = by-stage (f .stage) due (λ e. omega (arith, l, three e)) (λ e. omega (arith, l, gathering-some e (ltb (f .rows) (f .plants)) refl)) (λ e. omega (arith, l, more e));
+          some = by-stage (f .stage) due (λ e. omega (arith, l, three e)) (λ e. omega (arith, l, gathering-some e)) (λ e. omega (arith, l, more e));
           sizes = λ e. omega (arith, l, three e);
           row = λ e h. omega (arith, l, five e h);
         }
 
 -- ---- the line
+
+-- the places for its figures, before it is read
+abbrev pub places : List ℕ
+places = replicate 513 0
+
+pub many-places : length places ≡ 513
+many-places = length-replicate {A = ℕ} 513 0
 
 -- 26 to 30, with 513 places for its figures
 pub line-number : (line old : List ℕ) {answer : Line} {new : List ℕ} → length old ≡ 513

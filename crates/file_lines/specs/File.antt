@@ -1,5 +1,5 @@
 -- The month file, from its bytes to the bytes that `settle-month` prints (document 01, 'The file and its statement'). Assumes nothing.
-use Prim.Native.Nat.{ℕ, _+_, _-_, _*_}
+use Prim.Native.Nat.{ℕ, _+_, _*_}
 use mathlib.Core.Bool.{Bool, true, false, cond, _&&_}
 use mathlib.Core.List.{List, [], _∷_, _++_, map}
 use lib.Dec.{eqb, leb, ltb}
@@ -12,13 +12,15 @@ use Rattle.ledger.specs.Ledger.{Ledger, zeros}
 use Rattle.month.specs.declared.Month.{Month}
 use Rattle.questions.specs.Questions.{sizesNumber}
 use Rattle.month.specs.Calls.{blank, openCall, settleCall, closeCall}
-use Rattle.statement.specs.Statement.{line, statementText}
+use Rattle.month.specs.Statement.{statementOf}
+use Rattle.statement.specs.Statement.{line}
 
 -- A line of the file: its bytes, and whether a byte 10 ended it
 pub record FileLine : Type 0 where
   pub bytes : List ℕ
   pub ended : Bool
 
+-- ... a line that a byte 10 ended
 abbrev pub whole : List ℕ → FileLine
 whole bytes = record { bytes = bytes; ended = true }
 
@@ -32,6 +34,7 @@ unfoldable pub linesAfter : List ℕ → List ℕ → List FileLine
 linesAfter begun [] = unfinished begun
 linesAfter begun (b ∷ bs) = cond (eqb b 10) (whole begun ∷ linesAfter [] bs) (linesAfter (begun ++ (b ∷ [])) bs)
 
+-- ... the lines of a whole file
 unfoldable pub lines : List ℕ → List FileLine
 lines bytes = linesAfter [] bytes
 
@@ -135,7 +138,7 @@ printed k begins = refusal (k + 1) 31
 printed k (gathers s plants profile) = refusal (k + 1) 31
 printed k (settles plants profile m l) =
     cond (eqb (m .due) (m .periods + 1))
-    (let r = closeCall m in outcome (r .number) (statementText (r .month .due - 1) plants l) (refusal k))
+    (let r = closeCall m in outcome (r .number) (statementOf (r .month) plants l) (refusal k))
     (refusal (k + 1) 31)
 printed k (refuses j n) = refusal j n
 

@@ -24,6 +24,7 @@ pub record Kept : Type 0 where
   pub allotted : List ℕ
   pub accounts : List ℤ
 
+-- ... of these four lists
 abbrev pub kept : List ℕ → List ℕ → List ℕ → List ℤ → Kept
 kept columns profile allotted accounts = record { columns = columns; profile = profile; allotted = allotted; accounts = accounts }
 
@@ -84,6 +85,7 @@ pub record Settling (f : MonthFile) (k : Kept) : Type 0 where
   pub rows : rowsNumber 0 0 (rowsOf (f .month .plants) (k .columns)) ≡ 0
   pub bounded : inBounds (ledgerOf (f .month .plants) k) ≡ true
 
+-- the lists are long enough, the line that has begun has at most 8,192 bytes, no line is counted before the first, and among P, H and G lines it is as above
 pub record Valid (f : MonthFile) (k : Kept) : Type 0 where
   pub lent : Lent k
   pub short : f .length ≤ longest
@@ -104,52 +106,33 @@ pub record Moved (f : MonthFile) (p : Progress) (r : MonthFile) (k : Kept) : Typ
 abbrev pub atStart : MonthFile
 atStart = record { stage = 0; length = 0; count = 0; plants = 0; periods = 0; tariff = 0; rows = 0; figures = 0; month = blank; number = 0 }
 
--- the state with one more line read, at a stage
-unfoldable pub atStage : MonthFile → ℕ → MonthFile
-atStage f stage =
+-- a state with another stage, length, count, month and number
+abbrev pub fileWith : MonthFile → ℕ → ℕ → ℕ → Month → ℕ → MonthFile
+fileWith f stage length count month number =
     record {
       stage = stage;
-      length = 0;
-      count = f .count + 1;
+      length = length;
+      count = count;
       plants = f .plants;
       periods = f .periods;
       tariff = f .tariff;
       rows = f .rows;
       figures = f .figures;
-      month = f .month;
-      number = f .number;
+      month = month;
+      number = number;
     }
 
--- a state with another number, and with another month
+-- the state with one more line read, at a stage
+unfoldable pub atStage : MonthFile → ℕ → MonthFile
+atStage f stage = fileWith f stage 0 (f .count + 1) (f .month) (f .number)
+
+-- a state with another number
 abbrev pub numbered : MonthFile → ℕ → MonthFile
-numbered f n =
-    record {
-      stage = f .stage;
-      length = f .length;
-      count = f .count;
-      plants = f .plants;
-      periods = f .periods;
-      tariff = f .tariff;
-      rows = f .rows;
-      figures = f .figures;
-      month = f .month;
-      number = n;
-    }
+numbered f n = fileWith f (f .stage) (f .length) (f .count) (f .month) n
 
+-- a state with another month
 abbrev pub monthed : MonthFile → Month → MonthFile
-monthed f m =
-    record {
-      stage = f .stage;
-      length = f .length;
-      count = f .count;
-      plants = f .plants;
-      periods = f .periods;
-      tariff = f .tariff;
-      rows = f .rows;
-      figures = f .figures;
-      month = m;
-      number = f .number;
-    }
+monthed f m = fileWith f (f .stage) (f .length) (f .count) m (f .number)
 
 -- the state with one more line read, refused
 unfoldable pub atRefusal : MonthFile → ℕ → MonthFile

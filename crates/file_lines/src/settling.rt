@@ -2,6 +2,7 @@
 use crate::MonthFile;
 use ledger::ACCOUNTS;
 use ledger::ALLOTTED;
+use lists::PLANTS;
 ghost use mathlib.Core.Path.{_≡_};
 ghost use Rattle.file_lines.specs.State.{kept, Valid, Moved, settledOf};
 
@@ -23,7 +24,7 @@ pub fn settle_line(
     let figures = month.periods as usize;
     let fours = ALLOTTED * rows;
     let twos = ACCOUNTS * rows;
-    let mut allotment = [0u64; 2048];
+    let mut allotment = [0u64; ALLOTTED * PLANTS];
     let end = month.settle_columns(
         rows,
         columns,

@@ -4,6 +4,7 @@ use crate::beginning::begun;
 use crate::gathering::gather;
 use crate::settling::settle_line;
 use crate::turns::in_turn;
+use lines::fields::FIELDS;
 use lines::reading::read_line;
 ghost use Prim.Native.Nat.{_+_, _≤_};
 ghost use Rattle.file_lines.specs.File.{whole, taken, read};
@@ -44,7 +45,7 @@ pub fn take_line(
     requires { ⌜ Valid file (kept (now columns) (now profile) (now allotted) (now accounts)) ⌝ }
     ensures { λ r. ⌜ Moved file (read (file .count + 1) (progressOf file (kept (now (columns .entry)) (now (profile .entry)) (now (allotted .entry)) (now (accounts .entry)))) (whole (now (line .entry)))) r (kept (now (columns .exit)) (now (profile .exit)) (now (allotted .exit)) (now (accounts .exit))) ⌝ }
 {
-    let mut figures = [0u64; 513];
+    let mut figures = [0u64; FIELDS];
     let answer = read_line(line, &mut figures);
     if answer.number != 0 {
         return file.refused(answer.number);

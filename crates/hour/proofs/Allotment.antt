@@ -10,6 +10,7 @@ use Rattle.lists.specs.Lists.{sum, most, Within}
 use Rattle.lists.specs.Columns.{_⊕_, _⊓_, inside, within, four, byRow}
 use Rattle.lists.proofs.Columns.{_!_, length-rowwise, at-⊕, at-⊓, at-within, cond-+}
 use Rattle.lists.proofs.Rows.{fours-sized, fours-at, by-fours}
+use Rattle.rows.proofs.Fours.{within-sized}
 use Rattle.cover.specs.Cover.{supplied}
 use Rattle.cover.proofs.Cover.{supplied-sized, at-supplied}
 use Rattle.hour.specs.Hour.{Hour, submarkets, covered, deficit, surplus, leftOver, rights, ownCover, coverGot, ownSecondary, secondaryGot, figure, allotment}
@@ -31,9 +32,8 @@ module _ (h : Hour) (ok : Sound h) where
   second = supplied (h .rule) subs (leftOver h) (rights h)
 
   begun-sized : (s : ℕ) → length (begun s) ≡ length subs
-  begun-sized s =
-      length-rowwise (inside s) 0 0 subs (h .metered ⊓ covered h)
-      ∙ (let a = length-rowwise min 0 0 (h .metered) (covered h) in let b = rows-G h ok in let c = rows-b h ok in omega arith)
+  begun-sized =
+      within-sized subs (h .metered ⊓ covered h) (length-rowwise min 0 0 (h .metered) (covered h) ∙ (let a = rows-G h ok in let b = rows-b h ok in omega arith))
 
   first-sized : (s : ℕ) → length (first s) ≡ length subs
   first-sized = supplied-sized (ok .lawful) subs (surplus h) (deficit h) (let e = rows-d h ok in omega arith)

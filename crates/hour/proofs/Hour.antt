@@ -13,6 +13,7 @@ use Rattle.lists.specs.Columns.{rowwise, _⊕_, _⊖_, _⊓_, joined, inside, b
 use Rattle.lists.specs.Lists.{sum}
 use Rattle.lists.proofs.Columns.{_!_, length-rowwise, at-⊕, at-⊖, at-⊓, each, sum-⊕, sum-ext, fewer, sum-nil, joined-four, at-within, at-outside, within-ext, within-⊕, in-and-out, Sited, sited-le, sited-by, quarters, totals-sum, at-totals}
 use Rattle.lists.proofs.Sums.{at-le-sum}
+use Rattle.lists.proofs.Questions.{by-case}
 use Rattle.sharing.specs.Laws.{Lawful}
 use Rattle.sharing.proofs.Sharing.{adds-le}
 use Rattle.cover.specs.Cover.{own, got, rest}
@@ -59,19 +60,15 @@ module _ (h : Hour) (ok : Sound h) where
 
   pub rows-b : length b ≡ length subs
   unfolding covered
-  rows-b = go (leb (sum (guarantees h)) (sum G))
-    where
-      go : (t : Bool) → length (cond t (guarantees h) (h .rule (sum G) (guarantees h))) ≡ length subs
-      go true = rows-a
-      go false = L .sized (sum G) (guarantees h) ∙ rows-a
+  rows-b =
+      by-case (λ l. length l ≡ length subs) (leb (sum (guarantees h)) (sum G)) (guarantees h) (h .rule (sum G) (guarantees h))
+      (λ _. rows-a) (λ _. L .sized (sum G) (guarantees h) ∙ rows-a)
 
   pub rows-r : length r ≡ length subs
   unfolding rights
-  rows-r = go (eqb (sum (guarantees h)) 0)
-    where
-      go : (t : Bool) → length (cond t G (h .rule (secondary h) (guarantees h))) ≡ length subs
-      go true = rows-G
-      go false = L .sized (secondary h) (guarantees h) ∙ rows-a
+  rows-r =
+      by-case (λ l. length l ≡ length subs) (eqb (sum (guarantees h)) 0) G (h .rule (secondary h) (guarantees h))
+      (λ _. rows-G) (λ _. L .sized (secondary h) (guarantees h) ∙ rows-a)
 
   pub rows-d : length d ≡ length subs
   unfolding deficit
@@ -83,25 +80,22 @@ module _ (h : Hour) (ok : Sound h) where
   -- step 3: the covered guarantees and the secondary energy add up to the generation
   pub covered-sum : sum b + secondary h ≡ sum G
   unfolding covered secondary
-  covered-sum = go (leb (sum (guarantees h)) (sum G)) refl
-    where
-      go : (t : Bool) → leb (sum (guarantees h)) (sum G) ≡ t
-          → sum (cond t (guarantees h) (h .rule (sum G) (guarantees h))) + (sum G - sum (guarantees h)) ≡ sum G
-      go true e = let k = leb-true (sum (guarantees h)) (sum G) e in omega arith
-      go false e = let k = leb-false (sum (guarantees h)) (sum G) e in let m = adds-le L (sum G) (guarantees h) (omega arith) in omega arith
+  covered-sum =
+      by-case (λ l. sum l + (sum G - sum (guarantees h)) ≡ sum G) (leb (sum (guarantees h)) (sum G)) (guarantees h) (h .rule (sum G) (guarantees h))
+      (λ e. let k = leb-true (sum (guarantees h)) (sum G) e in omega arith)
+      (λ e. let k = leb-false (sum (guarantees h)) (sum G) e in let m = adds-le L (sum G) (guarantees h) (omega arith) in omega arith)
 
   -- step 7: the rights add up to the secondary energy
   pub rights-sum : sum r ≡ secondary h
   unfolding rights secondary
-  rights-sum = go (eqb (sum (guarantees h)) 0) refl
+  rights-sum =
+      by-case (λ l. sum l ≡ sum G - sum (guarantees h)) (eqb (sum (guarantees h)) 0) G (h .rule (sum G - sum (guarantees h)) (guarantees h))
+      (λ e. let k = eqb-true (sum (guarantees h)) 0 e in omega arith)
+      (λ e. L .adds (sum G - sum (guarantees h)) (guarantees h) (inr (pos-of e (eq-zero-or-pos (sum (guarantees h))))))
     where
-      go : (t : Bool) → eqb (sum (guarantees h)) 0 ≡ t → sum (cond t G (h .rule (sum G - sum (guarantees h)) (guarantees h))) ≡ sum G - sum (guarantees h)
-      go true e = let k = eqb-true (sum (guarantees h)) 0 e in omega arith
-      go false e = L .adds (sum G - sum (guarantees h)) (guarantees h) (inr (pos-of (eq-zero-or-pos (sum (guarantees h)))))
-        where
-          pos-of : (sum (guarantees h) ≡ 0) ⊎ (0 < sum (guarantees h)) → 0 < sum (guarantees h)
-          pos-of (inl z) = absurd (eqb-false (sum (guarantees h)) 0 e z)
-          pos-of (inr p) = p
+      pos-of : eqb (sum (guarantees h)) 0 ≡ false → (sum (guarantees h) ≡ 0) ⊎ (0 < sum (guarantees h)) → 0 < sum (guarantees h)
+      pos-of e (inl z) = absurd (eqb-false (sum (guarantees h)) 0 e z)
+      pos-of e (inr p) = p
 
   -- step 4: surpluses and deficits
   pub surplus-sum : sum (surplus h) + sum b ≡ sum d + sum G
@@ -165,6 +159,15 @@ module _ (h : Hour) (ok : Sound h) where
       other-rows true x y e f = omega arith
       other-rows false x y e f = refl
 
+  -- a deficit and a right to secondary energy are met, from the plant's own submarket and by the table
+  cover-met : (i : ℕ) → o₁ ! i + joined (got (h .rule) subs (surplus h) d) ! i ≡ d ! i
+  unfolding ownCover
+  cover-met i = first .fills i
+
+  rights-met : (i : ℕ) → o₂ ! i + joined (got (h .rule) subs (leftOver h) r) ! i ≡ r ! i
+  unfolding ownSecondary
+  rights-met i = second .fills i
+
   -- demand 3, rows: the four figures of a plant are its covered guarantee and its right to secondary energy
   pub row-sum : (i : ℕ) → figure h 1 ! i + figure h 2 ! i + figure h 3 ! i + figure h 4 ! i ≡ b ! i + r ! i
   row-sum i =
@@ -174,8 +177,7 @@ module _ (h : Hour) (ok : Sound h) where
       unfold coverGot in joined-four (got (h .rule) subs (surplus h) d) (first .fourGivers) i in
       let v : joined (got (h .rule) subs (leftOver h) r) ! i ≡ g₂ 1 ! i + g₂ 2 ! i + g₂ 3 ! i + g₂ 4 ! i =
       unfold secondaryGot in joined-four (got (h .rule) subs (leftOver h) r) (second .fourGivers) i in
-      let w : o₁ ! i + joined (got (h .rule) subs (surplus h) d) ! i ≡ d ! i = unfold ownCover in first .fills i in
-      let x : o₂ ! i + joined (got (h .rule) subs (leftOver h) r) ! i ≡ r ! i = unfold ownSecondary in second .fills i in
+      let w = cover-met i in let x = rights-met i in
       let y : d ! i ≡ b ! i - G ! i = unfold deficit in at-⊖ b G i in
       let z = quarters (subs ! i) (home ! i) (placed-home i) in
       let k = at-home i in
@@ -186,8 +188,7 @@ module _ (h : Hour) (ok : Sound h) where
           sited-le subs home (G ⊕ d ⊕ r)
           (λ i.
           let k = at-home i in let p = at-⊕ (G ⊕ d) r i in let q = at-⊕ G d i in
-          let w : o₁ ! i + joined (got (h .rule) subs (surplus h) d) ! i ≡ d ! i = unfold ownCover in first .fills i in
-          let x : o₂ ! i + joined (got (h .rule) subs (leftOver h) r) ! i ≡ r ! i = unfold ownSecondary in second .fills i in
+          let w = cover-met i in let x = rights-met i in
           omega arith)
           (sited (G ⊕ d ⊕ r)
           (let p = length-rowwise _+_ 0 0 (G ⊕ d) r in let q = length-rowwise _+_ 0 0 G d in let s = rows-G in let t = rows-d in let u = rows-r in omega arith))

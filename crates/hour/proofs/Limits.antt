@@ -1,14 +1,13 @@
 -- An hour in limits is sound, and its sums stay far below 64 bits. Assumes nothing.
 use mathlib.Core.Path.{_≡_, sym, ap, _∙_, subst}
 use mathlib.Core.List.{List, map}
-use Prim.Native.Nat.{ℕ, _*_, _^_, _≤_, _<_}
+use Prim.Native.Nat.{ℕ, _*_, _^_, _≤_}
 use native.Mathlib.Omega.{arith}
 use lib.IntN.{ℤ}
 use lib.ListN.{length, length-map}
-use Rattle.lists.specs.Lists.{sum, table, most}
-use Rattle.lists.proofs.Bounds.{sum-bound}
+use Rattle.lists.specs.Lists.{sum}
+use Rattle.lists.proofs.Bounds.{hours-small}
 use Rattle.sharing.proofs.Sharing.{share-lawful}
-use Rattle.modulation.specs.Guarantee.{guaranteeIn}
 use Rattle.modulation.proofs.Profile.{guarantees-le}
 use Rattle.hour.specs.Hour.{Hour, hourOf, submarkets, guarantees}
 use Rattle.hour.specs.Table.{plantsOf}
@@ -27,35 +26,24 @@ unfolding hourOf submarkets
 sound-of plants profile metered k standing same =
     record { lawful = share-lawful; placed = λ i h. placed-at 0 (map (λ (p : Plant). p .submarket) plants) standing i (rw length-map h); metered = same }
 
-pub submarkets-columns : (ss ns gs ls vs profile metered : List ℕ) (k : ℕ) → submarkets (hourOf (plantsOf ss ns gs ls vs) profile metered k) ≡ ss
-unfolding hourOf submarkets
-submarkets-columns ss ns gs ls vs profile metered k = plants-submarkets ss ns gs ls vs
-
 module _ {ss ns gs ls vs profile : List ℕ} {k : ℕ} {metered lent : List ℕ} {lentNets : List ℤ} (w : Workable ss ns gs ls vs profile k metered lent lentNets) where
   abbrev h : Hour
   h = hourOf (plantsOf ss ns gs ls vs) profile metered k
 
-  pub profile-small : sum profile < 2 ^ 43
-  profile-small =
-      let a = sum-bound profile most (w .hourly) in
-      let b : length profile * most ≤ 744 * most = omega (arith, w .periods) in
-      omega arith
+  pub subs-are : submarkets h ≡ ss
+  unfolding hourOf submarkets
+  subs-are = plants-submarkets ss ns gs ls vs
 
   pub sound : Sound h
   sound =
       sound-of (plantsOf ss ns gs ls vs) profile metered k (subst (Standing 0) (sym (plants-submarkets ss ns gs ls vs)) (w .standing))
       (w .meters ∙ sym (length-plants ss ns gs ls vs))
 
-  pub guarantees-are : guarantees h ≡ table (length gs) (guaranteeIn profile k gs ls vs)
-  guarantees-are = guarantees-columns profile k ss ns gs ls vs metered (w .equal .guarantees)
-
   -- A is at most 5.12 × 10^14
   pub guarantees-small : sum (guarantees h) ≤ 512 * 10 ^ 12
   guarantees-small =
-      rw guarantees-are
-      (let a = guarantees-le profile k (w .begun) (w .due) gs ls vs (w .whole) profile-small (w .guarantees) (w .losses) (w .availabilities) in
-      let b = w .rows in let c = w .equal .guarantees in
-      omega arith)
+      rw (guarantees-columns profile k ss ns gs ls vs metered (w .equal .guarantees))
+      (guarantees-le profile k (w .begun) (w .due) gs ls vs (let b = w .rows in let c = w .equal .guarantees in omega arith) (w .whole) (hours-small profile (w .periods) (w .hourly)) (w .guarantees) (w .losses) (w .availabilities))
 
   pub guarantees-sized : length (guarantees h) ≡ length ss
-  guarantees-sized = rows-a h sound ∙ ap length (submarkets-columns ss ns gs ls vs profile metered k)
+  guarantees-sized = rows-a h sound ∙ ap length subs-are

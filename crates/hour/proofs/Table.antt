@@ -2,9 +2,10 @@
 use mathlib.Core.Path.{_≡_, refl, _∙_, ap}
 use mathlib.Core.List.{List, [], _∷_, map}
 use Prim.Native.Nat.{ℕ, zero, suc, _<_}
+use native.Mathlib.Omega.{arith}
 use native.Mathlib.Nat.{le-of-suc-le-suc, not-suc-le-zero}
 use lib.ListN.{length, drop, getD}
-use lib.Seq.{drop-cons}
+use lib.Seq.{drop-cons, getD-drop}
 use Rattle.hour.specs.declared.Plant.{Plant}
 use Rattle.hour.specs.Table.{none, plantsOf}
 
@@ -12,8 +13,7 @@ abbrev pub plant : ℕ → ℕ → ℕ → ℕ → ℕ → Plant
 plant s n g l v = record { submarket = s; number = n; guarantee = g; loss = l; availability = v }
 
 next : (ns : List ℕ) (i : ℕ) → getD (drop 1 ns) i 0 ≡ getD ns (suc i) 0
-next [] i = refl
-next (n ∷ ns) i = refl
+next ns i = getD-drop 1 ns i 0 ∙ ap (λ (k : ℕ). getD ns k 0) (omega arith)
 
 pub length-plants : (ss ns gs ls vs : List ℕ) → length (plantsOf ss ns gs ls vs) ≡ length ss
 unfolding plantsOf

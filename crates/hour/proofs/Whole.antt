@@ -15,14 +15,11 @@ use Rattle.rows.specs.Steps.{coveredBy, rightsBy}
 use Rattle.hour.specs.Work.{Workable}
 use Rattle.hour.proofs.Hour.{surplus-sum, covered-sum, rights-sum, leftOver-sum, surplus-le, leftOver-le, rows-b, rows-d, rows-r}
 use Rattle.hour.proofs.Allotment.{begun-small, first-small}
-use Rattle.hour.proofs.Limits.{sound, submarkets-columns}
+use Rattle.hour.proofs.Limits.{sound, subs-are}
 
 module _ {ss ns gs ls vs profile : List ℕ} {k : ℕ} {metered lent : List ℕ} {lentNets : List ℤ} (w : Workable ss ns gs ls vs profile k metered lent lentNets) where
   abbrev h : Hour
   h = hourOf (plantsOf ss ns gs ls vs) profile metered k
-
-  pub subs-are : submarkets h ≡ ss
-  subs-are = submarkets-columns ss ns gs ls vs profile metered k
 
   generated : sum (h .metered) ≤ most
   unfolding hourOf
@@ -49,7 +46,7 @@ module _ {ss ns gs ls vs profile : List ℕ} {k : ℕ} {metered lent : List ℕ}
 
   pub surplus-is : {b : List ℕ} → b ≡ covered h → totals ss (metered ⊖ b) ≡ surplus h
   unfolding hourOf surplus
-  surplus-is e = ap₂ (λ s l. totals s (metered ⊖ l)) (sym subs-are) e
+  surplus-is e = ap₂ (λ s l. totals s (metered ⊖ l)) (sym (subs-are w)) e
 
   -- step 8, begun
   pub nets-are : {b r : List ℕ} → b ≡ covered h → r ≡ rights h → rowwise subℕ 0 0 metered (b ⊕ r) ≡ nets h
@@ -59,7 +56,13 @@ module _ {ss ns gs ls vs profile : List ℕ} {k : ℕ} {metered lent : List ℕ}
   pub begun-is : {b : List ℕ} → b ≡ covered h
       → byRow 0 (four (λ s. within s ss (metered ⊓ b))) ≡ byRow 0 (four (λ s. within s (submarkets h) (h .metered ⊓ covered h)))
   unfolding hourOf
-  begun-is e = ap₂ (λ t l. byRow 0 (four (λ s. within s t (metered ⊓ l)))) (sym subs-are) e
+  begun-is e = ap₂ (λ t l. byRow 0 (four (λ s. within s t (metered ⊓ l)))) (sym (subs-are w)) e
+
+  -- what the submarkets supply, in step 6 and again in step 7
+  pub supplied-is : {t u d u′ d′ : List ℕ} → t ≡ submarkets h → u ≡ u′ → d ≡ d′
+      → byRow 0 (four (supplied share t u d)) ≡ byRow 0 (four (supplied (h .rule) (submarkets h) u′ d′))
+  unfolding hourOf
+  supplied-is et eu ed = λ i. byRow 0 (four (supplied share (et i) (eu i) (ed i)))
 
   -- steps 4 to 6
   module _ {t u d : List ℕ} (et : t ≡ submarkets h) (eu : u ≡ surplus h) (ed : d ≡ deficit h) where
@@ -70,10 +73,6 @@ module _ {ss ns gs ls vs profile : List ℕ} {k : ℕ} {metered lent : List ℕ}
     pub left-is : rest share t u d ≡ leftOver h
     unfolding hourOf leftOver
     left-is = λ i. rest share (et i) (eu i) (ed i)
-
-    pub supplied-is : byRow 0 (four (supplied share t u d)) ≡ byRow 0 (four (supplied (h .rule) (submarkets h) (surplus h) (deficit h)))
-    unfolding hourOf
-    supplied-is = λ i. byRow 0 (four (supplied share (et i) (eu i) (ed i)))
 
     pub deficit-met : sum d ≤ sum u
     unfolding hourOf
@@ -89,10 +88,6 @@ module _ {ss ns gs ls vs profile : List ℕ} {k : ℕ} {metered lent : List ℕ}
     unfolding hourOf secondaryTable
     again-is = λ i. table share (et i) (ev i) (er i)
 
-    pub supplied-again : byRow 0 (four (supplied share t v r)) ≡ byRow 0 (four (supplied (h .rule) (submarkets h) (leftOver h) (rights h)))
-    unfolding hourOf
-    supplied-again = λ i. byRow 0 (four (supplied share (et i) (ev i) (er i)))
-
     pub rights-met : sum r ≤ sum v
     rights-met = rw (ev, er) (let a = leftOver-sum h (sound w) in omega arith)
 
@@ -102,13 +97,13 @@ module _ {ss ns gs ls vs profile : List ℕ} {k : ℕ} {metered lent : List ℕ}
 
   -- sizes
   pub covered-sized : length (covered h) ≡ length ss
-  covered-sized = rows-b h (sound w) ∙ ap length subs-are
+  covered-sized = rows-b h (sound w) ∙ ap length (subs-are w)
 
   pub rights-sized : length (rights h) ≡ length ss
-  rights-sized = rows-r h (sound w) ∙ ap length subs-are
+  rights-sized = rows-r h (sound w) ∙ ap length (subs-are w)
 
   pub deficit-sized : length (deficit h) ≡ length ss
-  deficit-sized = rows-d h (sound w) ∙ ap length subs-are
+  deficit-sized = rows-d h (sound w) ∙ ap length (subs-are w)
 
   pub covered-small : sum (covered h) ≤ most
   unfolding hourOf

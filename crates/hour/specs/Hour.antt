@@ -62,19 +62,23 @@ module _ (h : Hour) where
   unfoldable pub coverGot : List (List ℕ)
   coverGot = got (h .rule) (submarkets h) surplus deficit
 
-  -- Step 7: rights to secondary r, what is left to the submarkets V, own part, the second table
+  -- Step 7: rights to secondary r
   unfoldable pub rights : List ℕ
   rights = rightsBy (h .rule) (secondary h) (guarantees h) (h .metered)
 
+  -- Step 7's V: what is left to each submarket after step 5
   unfoldable pub leftOver : List ℕ
   leftOver = rest (h .rule) (submarkets h) surplus deficit
 
+  -- Step 7: own part min(V, R), shared over the submarket's r
   unfoldable pub ownSecondary : List ℕ
   ownSecondary = ownParts (h .rule) (submarkets h) leftOver rights
 
+  -- Step 7, as step 5: the second table
   unfoldable pub secondaryTable : List (List ℕ)
   secondaryTable = table (h .rule) (submarkets h) leftOver rights
 
+  -- Step 7, as step 6: what each plant got by the second table
   unfoldable pub secondaryGot : List (List ℕ)
   secondaryGot = got (h .rule) (submarkets h) leftOver rights
 

@@ -4,6 +4,7 @@ ghost use lib.ListN.{length};
 ghost use Rattle.hour.specs.Hour.{hourOf};
 ghost use Rattle.hour.specs.Table.{plantsOf};
 ghost use Rattle.hour.specs.Work.{Workable, HourWorked};
+use lists::PLANTS;
 use transfer::Table;
 
 // A plant record: monthly guarantee Q in kWh, loss and availability factors in millionths.
@@ -79,11 +80,11 @@ pub fn work(
     ensures { λ x. ⌜ HourWorked (hourOf (plantsOf (now (submarket .entry)) (now (number .entry)) (now (guarantee .entry)) (now (loss .entry)) (now (availability .entry))) (now (profile .entry)) (now (metered .entry)) period) x (now (allotment .exit)) (now (nets .exit)) ⌝ }
 {
     let n = submarket.len();
-    let mut a = [0u64; 512];
-    let mut b = [0u64; 512];
-    let mut d = [0u64; 512];
-    let mut r = [0u64; 512];
-    let mut part = [0u64; 512];
+    let mut a = [0u64; PLANTS];
+    let mut b = [0u64; PLANTS];
+    let mut d = [0u64; PLANTS];
+    let mut r = [0u64; PLANTS];
+    let mut part = [0u64; PLANTS];
     work_in(
         submarket,
         number,

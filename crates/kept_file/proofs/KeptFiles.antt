@@ -1,15 +1,14 @@
 -- Month files as a C program keeps them: what each call answers. Assumes nothing.
 use mathlib.Core.Path.{_≡_, refl, sym, ap, subst, _∙_}
 use mathlib.Core.List.{List}
-use Prim.Native.Nat.{ℕ, zero, suc}
-use native.Mathlib.Omega.{arith}
-use Rattle.lists.specs.Questions.{outcome}
+use Prim.Native.Nat.{ℕ}
 use Rattle.file_lines.specs.declared.MonthFile.{MonthFile}
-use Rattle.file_calls.specs.declared.FeedAnswer.{FeedAnswer}
 use Rattle.file_calls.specs.declared.FinishAnswer.{FinishAnswer}
-use Rattle.file_calls.specs.Checking.{FileLists, FedAny, FinishedAny}
+use Rattle.file_lines.specs.State.{Kept}
+use Rattle.month_file.specs.Run.{Place, place}
+use Rattle.file_calls.specs.Checking.{FedAny, FinishedAny}
 use Rattle.kept_file.specs.declared.KeptFile.{KeptFile}
-use Rattle.kept_file.specs.Files.{fileOf, keptFileOf, fileBack, FileFed}
+use Rattle.kept_file.specs.Files.{fileOf, keptFileOf, FileFed}
 use Rattle.kept_file.specs.Laws.{Files}
 use Rattle.kept_month.proofs.Kept.{months}
 
@@ -17,30 +16,21 @@ pub files : Files
 unfolding fileOf keptFileOf
 files = record { back = λ f. rw (months .back (f .month)) }
 
-module _ (k : KeptFile) (part : List ℕ) (l after : FileLists) {f : MonthFile} {x : FeedAnswer} (p : f ≡ fileOf k) (h : FedAny f part l x after) where
-  meant : FedAny (fileOf k) part l x after
-  meant = subst (λ (g : MonthFile). FedAny g part l x after) p h
+module _ {k : KeptFile} {lists after : Kept} {line part lineAfter : List ℕ} {f g : MonthFile} {n : ℕ} (p : f ≡ fileOf k) (h : FedAny (place f lists line) part n (place g after lineAfter)) where
+  -- what is kept has to stand for the state that the call hands back
+  feeds : {r : KeptFile} → g ≡ fileOf r → ((n ≡ 0 → ⊥) → r ≡ k) → FileFed k lists line part (record { number = n; file = r }) after lineAfter
+  feeds {r} e same =
+      record {
+        fed = subst (λ (m : MonthFile). FedAny (place m lists line) part n (place (fileOf r) after lineAfter)) p (subst (λ (m : MonthFile). FedAny (place f lists line) part n (place m after lineAfter)) e h);
+        same = same;
+      }
 
-  pub feeds : {r : KeptFile} → r ≡ fileBack (x .number) k (x .file) → FileFed k part l (record { number = x .number; file = r }) after
-  unfolding fileBack outcome
-  feeds {r} e = by (x .number) refl
-    where
-      by : (n : ℕ) → x .number ≡ n → FileFed k part l (record { number = x .number; file = r }) after
-      by zero z =
-          let is : fileBack (x .number) k (x .file) ≡ keptFileOf (x .file) = rw z in
-          let back : r ≡ keptFileOf (x .file) = e ∙ is in
-          record {
-            fed = subst (λ (g : MonthFile). FedAny (fileOf k) part l (record { number = x .number; file = g }) after) (sym (ap fileOf back ∙ files .back (x .file))) meant;
-            same = λ n. absurd (n z);
-          }
-      by (suc n) z =
-          let is : fileBack (x .number) k (x .file) ≡ k = rw z in
-          let back : r ≡ k = e ∙ is in
-          record {
-            fed = subst (λ (g : MonthFile). FedAny (fileOf k) part l (record { number = x .number; file = g }) after) (h .refused (λ q. absurd (omega (arith, q, z))) .0 ∙ p ∙ ap fileOf (sym back)) meant;
-            same = λ _. back;
-          }
+  pub feeds-refused : (n ≡ 0 → ⊥) → FileFed k lists line part (record { number = n; file = k }) after lineAfter
+  feeds-refused ne = feeds (ap (λ (a : Place). a .file) (h .refused ne) ∙ p) (λ _. refl)
 
-pub finishes : (k : KeptFile) (l : FileLists) (text after : List ℕ) {f : MonthFile} {x : FinishAnswer} → f ≡ fileOf k → FinishedAny f l text x after
-    → FinishedAny (fileOf k) l text (record { number = x .number; length = x .length }) after
-finishes k l text after {f} {x} p h = subst (λ (g : MonthFile). FinishedAny g l text x after) p h
+  pub feeds-taken : {r : KeptFile} → n ≡ 0 → r ≡ keptFileOf g → FileFed k lists line part (record { number = n; file = r }) after lineAfter
+  feeds-taken z e = feeds (sym (ap fileOf e ∙ files .back g)) (λ ne. absurd (ne z))
+
+pub finishes : {f g : MonthFile} {lists : Kept} {line text after : List ℕ} {x : FinishAnswer} → f ≡ g → FinishedAny (place f lists line) text x after
+    → FinishedAny (place g lists line) text x after
+finishes {lists = lists} {line} {text} {after} {x} p h = subst (λ (m : MonthFile). FinishedAny (place m lists line) text x after) p h

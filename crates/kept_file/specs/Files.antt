@@ -2,14 +2,15 @@
 use mathlib.Core.Path.{_≡_}
 use mathlib.Core.List.{List}
 use Prim.Native.Nat.{ℕ}
-use Rattle.lists.specs.Questions.{outcome}
 use Rattle.file_lines.specs.declared.MonthFile.{MonthFile}
-use Rattle.file_calls.specs.Checking.{FileLists, FedAny}
+use Rattle.file_lines.specs.State.{Kept}
+use Rattle.month_file.specs.Run.{place}
+use Rattle.file_calls.specs.Checking.{FedAny}
 use Rattle.kept_file.specs.declared.KeptFile.{KeptFile}
 use Rattle.kept_file.specs.declared.KeptFed.{KeptFed}
 use Rattle.kept_month.specs.Months.{monthOf, keptOf}
 
--- the state that C's stands for, and how a state is kept for C
+-- the state that C's stands for
 unfoldable pub fileOf : KeptFile → MonthFile
 fileOf k =
     record {
@@ -25,6 +26,7 @@ fileOf k =
       number = k .number;
     }
 
+-- how a state is kept for C
 unfoldable pub keptFileOf : MonthFile → KeptFile
 keptFileOf f =
     record {
@@ -40,11 +42,7 @@ keptFileOf f =
       number = f .number;
     }
 
--- taken, the state that the call hands back; refused, the caller's own, figure for figure
-unfoldable pub fileBack : ℕ → KeptFile → MonthFile → KeptFile
-fileBack number k f = outcome number (keptFileOf f) (λ _. k)
-
 -- feed: what `feed_any` answers on the state that is meant; refused, the caller's own state comes back, figure for figure
-pub record FileFed (k : KeptFile) (part : List ℕ) (l : FileLists) (r : KeptFed) (after : FileLists) : Type 0 where
-  pub fed : FedAny (fileOf k) part l (record { number = r .number; file = fileOf (r .file) }) after
+pub record FileFed (k : KeptFile) (lists : Kept) (line part : List ℕ) (r : KeptFed) (after : Kept) (lineAfter : List ℕ) : Type 0 where
+  pub fed : FedAny (place (fileOf k) lists line) part (r .number) (place (fileOf (r .file)) after lineAfter)
   pub same : (r .number ≡ 0 → ⊥) → r .file ≡ k

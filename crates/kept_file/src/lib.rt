@@ -1,12 +1,14 @@
 // The month file's state as a C program keeps it, and its calls. The state holds a month, so it crosses with the month's stage as a number too.
+use file_calls::FinishAnswer;
 use file_lines::MonthFile;
 use kept_month::KeptMonth;
 use kept_month::kept_of;
 use kept_month::month_of;
 ghost use mathlib.Core.Path.{_≡_};
-ghost use Rattle.file_lines.specs.State.{atStart};
-ghost use Rattle.file_calls.specs.Checking.{fileLists, FinishedAny};
-ghost use Rattle.kept_file.specs.Files.{fileOf, keptFileOf, fileBack, FileFed};
+ghost use Rattle.file_lines.specs.State.{kept, atStart};
+ghost use Rattle.month_file.specs.Run.{place};
+ghost use Rattle.file_calls.specs.Checking.{FinishedAny};
+ghost use Rattle.kept_file.specs.Files.{fileOf, keptFileOf, FileFed};
 
 // How far a month file has come, as the caller keeps it.
 #[repr(C)]
@@ -28,13 +30,6 @@ pub struct KeptFile {
 pub struct KeptFed {
     pub number: u64,
     pub file: KeptFile,
-}
-
-// What finish answers: the number, and how many bytes were written.
-#[repr(C)]
-pub struct KeptFinished {
-    pub number: u64,
-    pub length: u64,
 }
 
 // The state that is meant.
@@ -74,16 +69,6 @@ fn kept_file_of(file: MonthFile) -> KeptFile
     }
 }
 
-// Taken, the call's state; refused, the caller's own.
-fn file_back(number: u64, kept: KeptFile, file: MonthFile) -> KeptFile
-    ensures { λ r. ⌜ r ≡ fileBack number kept file ⌝ }
-{
-    if number != 0 {
-        return kept;
-    }
-    kept_file_of(file)
-}
-
 // file_lines::beginning::fresh.
 pub fn begin_kept() -> KeptFile
     ensures { λ r. ⌜ r ≡ keptFileOf atStart ⌝ }
@@ -102,14 +87,19 @@ pub fn feed_kept(
     allotted: &mut [u64],
     accounts: &mut [i64],
 ) -> KeptFed
-    ensures { λ r. ⌜ FileFed file (now (part .entry)) (fileLists (now (line .entry)) (now (columns .entry)) (now (profile .entry)) (now (allotted .entry)) (now (accounts .entry))) r (fileLists (now (line .exit)) (now (columns .exit)) (now (profile .exit)) (now (allotted .exit)) (now (accounts .exit))) ⌝ }
+    ensures { λ r. ⌜ FileFed file (kept (now (columns .entry)) (now (profile .entry)) (now (allotted .entry)) (now (accounts .entry))) (now (line .entry)) (now (part .entry)) r (kept (now (columns .exit)) (now (profile .exit)) (now (allotted .exit)) (now (accounts .exit))) (now (line .exit)) ⌝ }
 {
     let meant = file_of(file);
     let fed = file_calls::feed_any(meant, part, line, columns, profile, allotted, accounts);
-    let after = fed.file;
+    if fed.number != 0 {
+        return KeptFed {
+            number: fed.number,
+            file,
+        };
+    }
     KeptFed {
         number: fed.number,
-        file: file_back(fed.number, file, after),
+        file: kept_file_of(fed.file),
     }
 }
 
@@ -122,13 +112,9 @@ pub fn finish_kept(
     allotted: &[u64],
     accounts: &[i64],
     text: &mut [u8],
-) -> KeptFinished
-    ensures { λ r. ⌜ FinishedAny (fileOf file) (fileLists (now (line .entry)) (now (columns .entry)) (now (profile .entry)) (now (allotted .entry)) (now (accounts .entry))) (now (text .entry)) (record { number = r .number; length = r .length }) (now (text .exit)) ⌝ }
+) -> FinishAnswer
+    ensures { λ r. ⌜ FinishedAny (place (fileOf file) (kept (now (columns .entry)) (now (profile .entry)) (now (allotted .entry)) (now (accounts .entry))) (now (line .entry))) (now (text .entry)) r (now (text .exit)) ⌝ }
 {
     let meant = file_of(file);
-    let finished = file_calls::finish_any(meant, line, columns, profile, allotted, accounts, text);
-    KeptFinished {
-        number: finished.number,
-        length: finished.length as u64,
-    }
+    file_calls::finish_any(meant, line, columns, profile, allotted, accounts, text)
 }

@@ -13,14 +13,14 @@ use Rattle.lists.proofs.Questions.{both, and-both, every-at, every-all, at-most
 use Rattle.lists.proofs.Rows.{column-place, column-same, at-replicate, by-columns, column-within}
 use Rattle.signed.specs.Figures.{isWithin}
 use Rattle.signed.proofs.Laws.{within-abs, abs-within}
-use Rattle.ledger.specs.Ledger.{Ledger, inBounds, allottedIn, netColumn, moneyColumn, zeros, allottedWidth, accountsWidth, kwhBound, moneyBound}
+use Rattle.ledger.specs.Ledger.{Ledger, inBounds, allottedIn, netColumn, moneyColumn, netOf, moneyOf, zeros, allottedWidth, accountsWidth, kwhBound, moneyBound}
 use Rattle.ledger.specs.Posting.{Near, Summable}
 
 -- every allotted figure; the net and the money of row i; every account, net or money
 pub record Bounded (l : Ledger) : Type 0 where
   pub allotted : Within (l .allotted) kwhBound
-  pub net : (i : ℕ) → natAbs (getD (l .accounts) (2 * i) (pos 0)) ≤ kwhBound
-  pub money : (i : ℕ) → natAbs (getD (l .accounts) (2 * i + 1) (pos 0)) ≤ moneyBound
+  pub net : (i : ℕ) → natAbs (netOf i l) ≤ kwhBound
+  pub money : (i : ℕ) → natAbs (moneyOf i l) ≤ moneyBound
   pub accounts : Near (l .accounts) moneyBound
 
 -- the figures of a column within a bound, by row and by place

@@ -2,14 +2,11 @@
 use mathlib.Core.Path.{_≡_, refl, sym, ap, _∙_, subst, subst₂}
 use mathlib.Core.List.{List}
 use Prim.Native.Nat.{ℕ, _+_, _≤_, _<_}
-use native.Mathlib.Nat.{le-refl}
 use native.Mathlib.Omega.{arith}
 use lib.ListN.{length, getD, set, replicate}
-use Rattle.lists.specs.Lists.{table}
 use Rattle.lists.specs.Columns.{rowwise}
 use Rattle.lists.proofs.Columns.{rowwise-table}
-use Rattle.lists.proofs.Loops.{Tabling, table-constant, Updating, updating-more, updated}
-use Rattle.lists.proofs.Parts.{whole-written}
+use Rattle.lists.proofs.Loops.{Tabling, table-constant, Updating, updating-more}
 use Rattle.lists.proofs.Written.{written-all}
 
 -- one value stored everywhere
@@ -29,6 +26,4 @@ module _ {A : Type 0} (f : A → A → A) (d : A) where
       subst₂ (λ (k : ℕ) (l : List A). Joining more k out₀ l) g (sym w) (updating-more here (omega arith) (ap (f (getD out p d)) u))
 
   pub joined-all : (more : List A) {i : ℕ} {out₀ out : List A} → Joining more i out₀ out → length out₀ ≤ i → length out₀ ≡ length more → out ≡ rowwise f d d out₀ more
-  joined-all more {out₀ = out₀} k h e =
-      whole-written (length out₀) (table (length out₀) (λ j. f (getD out₀ j d) (getD more j d))) out₀ (updated k h) (le-refl _)
-      ∙ sym (rowwise-table f d d (length out₀) out₀ more refl (sym e))
+  joined-all more {out₀ = out₀} k h e = written-all _ (k .now) h refl ∙ sym (rowwise-table f d d (length out₀) out₀ more refl (sym e))

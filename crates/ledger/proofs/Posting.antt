@@ -16,8 +16,7 @@ use Rattle.signed.specs.Figures.{accountsOf, isWithin, atRate}
 use Rattle.signed.proofs.Accounts.{at-rate, rate-one, accounts-net, accounts-money}
 use Rattle.signed.proofs.View.{abs-times}
 use Rattle.ledger.specs.Ledger.{Ledger, inBounds, added, accountsWidth, kwhBound, moneyBound}
-use Rattle.ledger.specs.Posting.{Addable, Payable, Postable, hourFigures}
-use Rattle.ledger.proofs.Bounds.{bounded}
+use Rattle.ledger.specs.Posting.{Payable, hourFigures}
 
 module _ {accounts nets : List ℤ} {rate : ℕ} (h : Payable accounts nets rate) (i : ℕ) where
   -- a net at its rate
@@ -50,13 +49,16 @@ module _ (accounts nets : List ℤ) (rate start : ℕ) (h : Payable accounts net
       (column-place accountsWidth start (omega arith) accounts i (pos 0) refl)
       (at-rate rate nets i)
 
--- what the parts of a posting ask for
-module _ {l : Ledger} {allotment : List ℕ} {nets : List ℤ} {tariff : ℕ} (h : Postable l allotment nets tariff) where
-  pub addable : Addable (l .allotted) allotment
-  addable = record { same = h .figures; ledger = bounded l (h .inside) .allotted; hour = h .allotmentSmall }
+-- nets that may be added at a rate may be added as they are
+pub unrated : {accounts nets : List ℤ} {rate : ℕ} → Payable accounts nets rate → Payable accounts nets 1
+unrated h = record { rows = h .rows; ledger = h .ledger; hour = h .hour; low = omega arith }
 
-  pub payable : (rate : ℕ) → rate ≤ 10000 → Payable (l .accounts) nets rate
-  payable rate k = record { rows = h .rows; ledger = bounded l (h .inside) .accounts; hour = h .netsSmall; low = k }
+-- a column of the accounts as they would be
+pub added-column : (accounts : List ℤ) (tariff : ℕ) (nets : List ℤ) (j : ℕ) {xs : List ℤ} → column accountsWidth j (accountsOf tariff nets) ≡ xs
+    → column accountsWidth j (accounts ⊕ℤ accountsOf tariff nets) ≡ column accountsWidth j accounts ⊕ℤ xs
+added-column accounts tariff nets j e =
+    column-rowwise _+ℤ_ (pos 0) (pos 0) accountsWidth j accounts (accountsOf tariff nets)
+    ∙ ap (λ (zs : List ℤ). column accountsWidth j accounts ⊕ℤ zs) e
 
 -- 19 of the ledger as it would be, column by column: the nets at the rate 1, the money at the tariff
 pub bounds-after : (l : Ledger) (allotment : List ℕ) (nets : List ℤ) (tariff : ℕ)
@@ -67,11 +69,5 @@ pub bounds-after : (l : Ledger) (allotment : List ℕ) (nets : List ℤ) (tariff
 unfolding inBounds added
 bounds-after l allotment nets tariff =
     ap₂ (λ (xs ys : List ℤ). atMost kwhBound (l .allotted ⊕ allotment) && (every (isWithin kwhBound) xs && every (isWithin moneyBound) ys))
-    (columns 0 (accounts-net tariff nets ∙ sym (rate-one nets)))
-    (columns 1 (accounts-money tariff nets))
-  where
-    columns : (j : ℕ) {xs : List ℤ} → column accountsWidth j (accountsOf tariff nets) ≡ xs
-        → column accountsWidth j (l .accounts ⊕ℤ accountsOf tariff nets) ≡ column accountsWidth j (l .accounts) ⊕ℤ xs
-    columns j e =
-        column-rowwise _+ℤ_ (pos 0) (pos 0) accountsWidth j (l .accounts) (accountsOf tariff nets)
-        ∙ ap (λ (zs : List ℤ). column accountsWidth j (l .accounts) ⊕ℤ zs) e
+    (added-column (l .accounts) tariff nets 0 (accounts-net tariff nets ∙ sym (rate-one nets)))
+    (added-column (l .accounts) tariff nets 1 (accounts-money tariff nets))

@@ -1,9 +1,9 @@
 -- "Plants, profile, ledger": the ledger's lists, their columns and bounds. Assumes nothing.
-use Prim.Native.Nat.{ℕ, _-_, _*_, _^_}
+use Prim.Native.Nat.{ℕ, _+_, _-_, _*_, _^_}
 use mathlib.Core.Bool.{Bool, _&&_}
 use mathlib.Core.List.{List}
 use lib.IntN.{ℤ, pos}
-use lib.ListN.{replicate}
+use lib.ListN.{getD, replicate}
 use Rattle.lists.specs.Lists.{every, atMost}
 use Rattle.lists.specs.Columns.{_⊕_, _⊕ℤ_, column}
 use Rattle.signed.specs.Figures.{isWithin}
@@ -29,6 +29,13 @@ netColumn l = column accountsWidth 0 (l .accounts)
 
 abbrev pub moneyColumn : Ledger → List ℤ
 moneyColumn l = column accountsWidth 1 (l .accounts)
+
+-- the net and the money of row i
+abbrev pub netOf : ℕ → Ledger → ℤ
+netOf i l = getD (l .accounts) (accountsWidth * i) (pos 0)
+
+abbrev pub moneyOf : ℕ → Ledger → ℤ
+moneyOf i l = getD (l .accounts) (accountsWidth * i + 1) (pos 0)
 
 -- no figure passes these: allotted and net kWh, and money in thousandths of a centavo
 abbrev pub kwhBound : ℕ

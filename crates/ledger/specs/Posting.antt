@@ -1,13 +1,12 @@
 -- What an hour adds to the ledger, and what the inner functions ask of figures so that no sum wraps. Assumes nothing.
 use mathlib.Core.Path.{_≡_}
-use mathlib.Core.Bool.{true}
 use mathlib.Core.List.{List}
 use Prim.Native.Nat.{ℕ, _*_, _^_, _≤_}
 use lib.IntN.{ℤ, pos, natAbs}
 use lib.ListN.{length, getD}
 use Rattle.lists.specs.Lists.{most, Within}
 use Rattle.signed.specs.Figures.{accountsOf}
-use Rattle.ledger.specs.Ledger.{Ledger, inBounds, accountsWidth, kwhBound, moneyBound}
+use Rattle.ledger.specs.Ledger.{Ledger, accountsWidth, kwhBound, moneyBound}
 
 -- an hour's figures: each row's allotted kWh, its net, and net × TEO as money
 abbrev pub hourFigures : List ℕ → List ℤ → ℕ → Ledger
@@ -30,14 +29,9 @@ pub record Payable (accounts nets : List ℤ) (rate : ℕ) : Type 0 where
   pub hour : Near nets (4 * 10 ^ 9)
   pub low : rate ≤ 10000
 
--- an hour that may be added to a ledger: the ledger is in bounds, the lists have its lengths, the figures are those that an hour can have
-pub record Postable (l : Ledger) (allotment : List ℕ) (nets : List ℤ) (tariff : ℕ) : Type 0 where
-  pub inside : inBounds l ≡ true
-  pub figures : length (l .allotted) ≡ length allotment
-  pub rows : length (l .accounts) ≡ accountsWidth * length nets
-  pub allotmentSmall : Within allotment most
-  pub netsSmall : Near nets (4 * 10 ^ 9)
-  pub tariffSmall : tariff ≤ 10000
+-- an hour that may be added to a ledger: its figures to the allotted ones, its nets to the accounts at the tariff
+abbrev pub Postable : Ledger → List ℕ → List ℤ → ℕ → Type 0
+Postable l allotment nets tariff = Addable (l .allotted) allotment × Payable (l .accounts) nets tariff
 
 -- accounts whose columns may be added up: at most 512 rows, each figure within the bound of money
 pub record Summable (accounts : List ℤ) : Type 0 where

@@ -15,9 +15,9 @@ pub const ALLOTTED: usize = 4;
 pub const ACCOUNTS: usize = 2;
 
 // The net stands before the money.
-const NET: usize = 0;
+pub const NET: usize = 0;
 
-const MONEY: usize = 1;
+pub const MONEY: usize = 1;
 
 // No figure passes these: allotted and net kWh, and money in thousandths of a centavo.
 const KWH_BOUND: u64 = 1_488_000_000_000;
@@ -196,7 +196,7 @@ pub fn column_sums(allotted: &[u64]) -> [u64; 4]
 }
 
 // The sum of the accounts' column that starts at `start`.
-fn account_sum(start: usize, accounts: &[i64]) -> i64
+pub fn account_sum(start: usize, accounts: &[i64]) -> i64
     requires { ⌜ Summable (now accounts) ⌝ }
     ensures { λ z. ⌜ z ≡ sumℤ (column accountsWidth start (now (accounts .entry))) ⌝ }
 {
@@ -207,20 +207,4 @@ fn account_sum(start: usize, accounts: &[i64]) -> i64
         i += ACCOUNTS;
     }
     total
-}
-
-// The sum of nets.
-pub fn net_sum(accounts: &[i64]) -> i64
-    requires { ⌜ Summable (now accounts) ⌝ }
-    ensures { λ z. ⌜ z ≡ sumℤ (column accountsWidth 0 (now (accounts .entry))) ⌝ }
-{
-    account_sum(NET, accounts)
-}
-
-// The sum of money.
-pub fn money_sum(accounts: &[i64]) -> i64
-    requires { ⌜ Summable (now accounts) ⌝ }
-    ensures { λ z. ⌜ z ≡ sumℤ (column accountsWidth 1 (now (accounts .entry))) ⌝ }
-{
-    account_sum(MONEY, accounts)
 }

@@ -1,14 +1,14 @@
 -- A line as it is written reads back. Assumes nothing.
 use mathlib.Core.Path.{_≡_, refl, ap, ap₂, _∙_}
 use mathlib.Core.Bool.{true}
-use mathlib.Core.List.{List, [], _∷_, _++_, map, append-nil}
-use Prim.Native.Nat.{ℕ, suc, _-_, _^_, _≤_}
+use mathlib.Core.List.{List, [], _∷_, _++_, map}
+use Prim.Native.Nat.{ℕ, _-_, _^_, _≤_}
 use native.Mathlib.Omega.{arith}
 use borrow.Author.Tests.{le-leb, ne-eqb}
-use lib.ListN.{length, drop, length-map}
+use lib.ListN.{length, drop, getD, length-map, List·getD-map}
 use Rattle.lists.specs.Lists.{Within, every}
 use Rattle.lists.specs.Questions.{firstNo}
-use Rattle.lists.proofs.Questions.{both, and-both, limits, in-range, accepted}
+use Rattle.lists.proofs.Questions.{both, every-all, limits, in-range, accepted}
 use Rattle.figures.specs.Figures.{figure, commasBefore, byCommas, value, isDigit, isFigure}
 use Rattle.figures.proofs.Promised as figures
 use Rattle.lines.specs.Fields.{longest, fields, toFirst}
@@ -21,33 +21,25 @@ no-comma : (b : ℕ) → isDigit b ≡ true → b ≡ 44 → ⊥
 unfolding isDigit
 no-comma b e p = let l = limits 48 57 b e in omega arith
 
-fields-alone : (f : List ℕ) → every isDigit f ≡ true → fields f ≡ f ∷ []
+-- before what begins with an empty field they are the first field
+fields-digits : (f rest : List ℕ) (fs : List (List ℕ)) → every isDigit f ≡ true → fields rest ≡ [] ∷ fs → fields (f ++ rest) ≡ f ∷ fs
 unfolding fields toFirst every
-fields-alone [] e = refl
-fields-alone (b ∷ bs) e =
+fields-digits [] rest fs e h = h
+fields-digits (b ∷ bs) rest fs e h =
     let p = both (isDigit b) (every isDigit bs) e in
-    rw (ne-eqb b 44 (no-comma b (p .0)), fields-alone bs (p .1))
-
-fields-behind : (f rest : List ℕ) → every isDigit f ≡ true → fields (f ++ (44 ∷ rest)) ≡ f ∷ fields rest
-unfolding fields toFirst every
-fields-behind [] rest e = refl
-fields-behind (b ∷ bs) rest e =
-    let p = both (isDigit b) (every isDigit bs) e in
-    rw (ne-eqb b 44 (no-comma b (p .0)), fields-behind bs rest (p .1))
+    rw (ne-eqb b 44 (no-comma b (p .0)), fields-digits bs rest fs (p .1) h)
 
 -- ---- the fields of figures written
 
 fields-figures : (x : ℕ) (xs : List ℕ) → fields (byCommas (map figure (x ∷ xs))) ≡ map figure (x ∷ xs)
-unfolding byCommas commasBefore
-fields-figures x [] = ap fields (append-nil (figure x)) ∙ fields-alone (figure x) (figures.digits-all x)
+unfolding byCommas commasBefore fields
+fields-figures x [] = fields-digits (figure x) [] [] (figures.digits-all x) refl
 fields-figures x (y ∷ ys) =
-    fields-behind (figure x) (byCommas (map figure (y ∷ ys))) (figures.digits-all x) ∙ ap (λ (fs : List (List ℕ)). figure x ∷ fs) (fields-figures y ys)
+    fields-digits (figure x) (44 ∷ byCommas (map figure (y ∷ ys))) _ (figures.digits-all x) (ap (λ (fs : List (List ℕ)). [] ∷ fs) (fields-figures y ys))
 
 good-figures : (xs : List ℕ) → Within xs (10 ^ 19 - 1) → every isFigure (map figure xs) ≡ true
-unfolding every
-good-figures [] w = refl
-good-figures (x ∷ xs) w =
-    and-both (isFigure (figure x)) (every isFigure (map figure xs)) (figures.promised .readable x (omega (arith, w .at 0))) (good-figures xs (record { at = λ i. w .at (suc i) }))
+good-figures xs w =
+    every-all isFigure (map figure xs) (figure 0) (λ i. ap isFigure (List·getD-map figure xs i 0) ∙ figures.promised .readable (getD xs i 0) (omega (arith, w .at i)))
 
 values-back : (xs : List ℕ) → map value (map figure xs) ≡ xs
 values-back [] = refl

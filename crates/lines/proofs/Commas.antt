@@ -1,15 +1,14 @@
 -- Laws of commas and fields. Assumes nothing.
-use mathlib.Core.Path.{_≡_, refl, sym, ap, _∙_}
-use mathlib.Core.Bool.{Bool, true, false, cond}
+use mathlib.Core.Path.{_≡_, refl, sym, ap, subst, _∙_}
+use mathlib.Core.Bool.{Bool, true, false}
 use mathlib.Core.List.{List, [], _∷_}
 use Prim.Native.Nat.{ℕ, zero, suc, _+_, _-_, _≤_, _<_, zero-le}
-use native.Mathlib.Nat.{add-zero}
-use native.Mathlib.Numerals.{add-one}
 use native.Mathlib.Omega.{arith}
 use borrow.Author.Tests.{eq-eqb, ne-eqb, eqb-true, eqb-false}
 use lib.Dec.{eqb}
 use lib.ListN.{length, take, drop, getD, length-drop, drop-of-length-le}
-use lib.Seq.{drop-cons, getD-drop, drop-drop, drop-nil, take-all, length-take-le}
+use lib.Seq.{getD-drop, drop-drop, drop-nil, take-all, length-take-le}
+use Rattle.lists.proofs.Loops.{drop-more, at-drop}
 use Rattle.lines.specs.Fields.{toComma, nextComma, fields, toFirst}
 use Rattle.lines.specs.Inner.{firstField, Starts}
 
@@ -22,11 +21,11 @@ module _ (l : List ℕ) (i : ℕ) where
 
   comma-here : i < length l → getD l i 0 ≡ 44 → toComma (drop i l) ≡ 0
   unfolding toComma
-  comma-here h e = rw (drop-cons l i 0, eq-eqb (getD l i 0) 44 e)
+  comma-here h e = rw (drop-more l i 0, eq-eqb (getD l i 0) 44 e)
 
   comma-more : i < length l → (getD l i 0 ≡ 44 → ⊥) → toComma (drop i l) ≡ suc (toComma (drop (i + 1) l))
   unfolding toComma
-  comma-more h n = rw (add-one, drop-cons l i 0, ne-eqb (getD l i 0) 44 n)
+  comma-more h n = rw (drop-more l i 0, ne-eqb (getD l i 0) 44 n)
 
   pub next-end : length l ≤ i → nextComma l i ≡ i
   unfolding nextComma
@@ -40,16 +39,20 @@ module _ (l : List ℕ) (i : ℕ) where
   unfolding nextComma
   next-more h n = omega (arith, comma-more h n)
 
+-- a law of lines follows from that of no bytes, and from that of the bytes behind a comma and behind another byte
+pub by-commas : {P : List ℕ → Type 0} → P [] → ((bs : List ℕ) → P bs → P (44 ∷ bs)) → ((b : ℕ) (bs : List ℕ) → eqb b 44 ≡ false → P bs → P (b ∷ bs)) → (l : List ℕ) → P l
+by-commas none comma other [] = none
+by-commas {P} none comma other (b ∷ bs) = by (eqb b 44) refl (by-commas none comma other bs)
+  where
+    by : (t : Bool) → eqb b 44 ≡ t → P bs → P (b ∷ bs)
+    by true e ih = subst (λ (c : ℕ). P (c ∷ bs)) (sym (eqb-true b 44 e)) (comma bs ih)
+    by false e ih = other b bs e ih
+
 -- ---- the next comma lies inside the line
 
 comma-le : (l : List ℕ) → toComma l ≤ length l
 unfolding toComma
-comma-le [] = omega arith
-comma-le (b ∷ bs) = by (eqb b 44) (comma-le bs)
-  where
-    by : (t : Bool) → toComma bs ≤ length bs → cond t 0 (suc (toComma bs)) ≤ suc (length bs)
-    by true ih = omega arith
-    by false ih = omega arith
+comma-le = by-commas (omega arith) (λ bs ih. omega arith) (λ b bs e ih. rw e (omega (arith, ih)))
 
 module _ (l : List ℕ) (i : ℕ) where
   pub next-low : i ≤ nextComma l i
@@ -62,19 +65,12 @@ module _ (l : List ℕ) (i : ℕ) where
 
 -- ---- the first field, and those behind it
 
-fields-by : (b : ℕ) (bs : List ℕ) (t : Bool) → eqb b 44 ≡ t
-    → (length bs ≤ toComma bs → fields bs ≡ bs ∷ []) → (toComma bs < length bs → fields bs ≡ take (toComma bs) bs ∷ fields (drop (suc (toComma bs)) bs))
-    → (length (b ∷ bs) ≤ toComma (b ∷ bs) → fields (b ∷ bs) ≡ (b ∷ bs) ∷ [])
-    × (toComma (b ∷ bs) < length (b ∷ bs) → fields (b ∷ bs) ≡ take (toComma (b ∷ bs)) (b ∷ bs) ∷ fields (drop (suc (toComma (b ∷ bs))) (b ∷ bs)))
-unfolding fields toComma toFirst
-fields-by b bs true e last more = rw e ((λ h. absurd (omega arith)), (λ h. refl))
-fields-by b bs false e last more = rw e ((λ h. ap (toFirst b) (last (omega arith))), (λ h. ap (toFirst b) (more (omega arith))))
-
 fields-both : (l : List ℕ) → (length l ≤ toComma l → fields l ≡ l ∷ [])
     × (toComma l < length l → fields l ≡ take (toComma l) l ∷ fields (drop (suc (toComma l)) l))
-unfolding fields toComma
-fields-both [] = ((λ h. refl), (λ h. absurd (omega arith)))
-fields-both (b ∷ bs) = let ih = fields-both bs in fields-by b bs (eqb b 44) refl (ih .0) (ih .1)
+unfolding fields toComma toFirst
+fields-both =
+    by-commas ((λ h. refl), (λ h. absurd (omega arith))) (λ bs ih. ((λ h. absurd (omega arith)), (λ h. refl)))
+    (λ b bs e ih. rw e ((λ h. ap (toFirst b) (ih .0 (omega arith))), (λ h. ap (toFirst b) (ih .1 (omega arith)))))
 
 -- from a position on: the field there, and those behind the next comma
 module _ (l : List ℕ) (i : ℕ) (h : i ≤ length l) where
@@ -136,12 +132,7 @@ module _ {l : List ℕ} {index : ℕ} where
 -- a line has a first field
 fields-first : (l : List ℕ) → fields l ≡ firstField l ∷ drop 1 (fields l)
 unfolding fields firstField toComma toFirst
-fields-first [] = refl
-fields-first (b ∷ bs) = by (eqb b 44) refl (fields-first bs)
-  where
-    by : (t : Bool) → eqb b 44 ≡ t → fields bs ≡ firstField bs ∷ drop 1 (fields bs) → fields (b ∷ bs) ≡ firstField (b ∷ bs) ∷ drop 1 (fields (b ∷ bs))
-    by true e ih = rw e
-    by false e ih = rw (e, ih)
+fields-first = by-commas refl (λ bs ih. refl) (λ b bs e ih. rw (e, ih))
 
 pub fields-some : (l : List ℕ) → 0 < length (fields l)
 fields-some l = omega (arith, ap length (fields-first l))
@@ -158,30 +149,21 @@ module _ {l : List ℕ} {index r : ℕ} (s : Starts l index r) where
     field-present = omega (arith, length-drop index (fields l), ap length whole)
 
     pub field-there : getD (fields l) index [] ≡ firstField (drop r l)
-    field-there =
-        ap (λ (n : ℕ). getD (fields l) n []) (sym (add-zero index)) ∙ sym (getD-drop index (fields l) 0 []) ∙ ap (λ (fs : List (List ℕ)). getD fs 0 []) whole
+    field-there = sym (at-drop (fields l) index []) ∙ ap (λ (fs : List (List ℕ)). getD fs 0 []) whole
 
 -- ---- the next comma is the first
 
 before-comma : (l : List ℕ) (k : ℕ) → k < toComma l → getD l k 0 ≡ 44 → ⊥
 unfolding toComma
-before-comma [] k h e = omega arith
-before-comma (b ∷ bs) k h e = by (eqb b 44) refl k h e (before-comma bs)
+before-comma = by-commas (λ k h e. omega arith) (λ bs ih k h e. omega arith) (λ b bs q ih. rw q (other b bs q ih))
   where
-    by : (t : Bool) → eqb b 44 ≡ t → (k : ℕ) → k < cond t 0 (suc (toComma bs)) → getD (b ∷ bs) k 0 ≡ 44 → ((k : ℕ) → k < toComma bs → getD bs k 0 ≡ 44 → ⊥) → ⊥
-    by true q k h e ih = omega arith
-    by false q zero h e ih = eqb-false b 44 q e
-    by false q (suc k) h e ih = ih k (omega arith) e
+    other : (b : ℕ) (bs : List ℕ) → eqb b 44 ≡ false → ((k : ℕ) → k < toComma bs → getD bs k 0 ≡ 44 → ⊥) → (k : ℕ) → k < suc (toComma bs) → getD (b ∷ bs) k 0 ≡ 44 → ⊥
+    other b bs q ih zero h e = eqb-false b 44 q e
+    other b bs q ih (suc k) h e = ih k (omega arith) e
 
 at-comma : (l : List ℕ) → toComma l < length l → getD l (toComma l) 0 ≡ 44
 unfolding toComma
-at-comma [] h = absurd (omega arith)
-at-comma (b ∷ bs) h = by (eqb b 44) refl h (at-comma bs)
-  where
-    by : (t : Bool) → eqb b 44 ≡ t → cond t 0 (suc (toComma bs)) < suc (length bs) → (toComma bs < length bs → getD bs (toComma bs) 0 ≡ 44)
-        → getD (b ∷ bs) (cond t 0 (suc (toComma bs))) 0 ≡ 44
-    by true q h ih = eqb-true b 44 q
-    by false q h ih = ih (omega arith)
+at-comma = by-commas (λ h. absurd (omega arith)) (λ bs ih h. refl) (λ b bs e ih. rw e (λ h. ih (omega arith)))
 
 module _ (l : List ℕ) (i : ℕ) where
   pub none-before : (k : ℕ) → i ≤ k → k < nextComma l i → getD l k 0 ≡ 44 → ⊥

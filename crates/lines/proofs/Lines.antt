@@ -1,13 +1,15 @@
 -- Laws of reading: a loop that reads the fields of a line to the front of a list, and what the call answers. Assumes nothing.
 use mathlib.Core.Path.{_≡_, refl, sym, ap, _∙_}
+use mathlib.Core.Logic.{by-cases}
 use mathlib.Core.Bool.{Bool, true, false, false≢true, _&&_, and-assoc, and-true}
 use mathlib.Core.List.{List, [], _∷_, _++_, map, append-assoc, append-nil}
 use Prim.Native.Nat.{ℕ, _+_, _-_, _≤_, _<_, zero-le}
 use native.Mathlib.Nat.{zero-add}
 use native.Mathlib.Numerals.{add-one}
+use native.Mathlib.Decide.{decLt}
 use native.Mathlib.Omega.{arith}
-use borrow.Author.Tests.{lt-ltb, le-leb, lt-leb, leb-true, leb-false}
-use lib.Dec.{leb, ltb}
+use borrow.Author.Tests.{lt-ltb, le-leb, lt-leb}
+use lib.Dec.{ltb}
 use lib.ListN.{length, take, drop, set, length-set, length-map, take-append-drop}
 use lib.Seq.{take-suc-set, length-take-le, take-at}
 use Rattle.lists.specs.Lists.{every}
@@ -163,15 +165,9 @@ known line start from {own} {list} {count} {good} read size same short is some e
 module _ {line : List ℕ} {start : ℕ} {list : List ℕ} {count : ℕ} {good : Bool} (k : Known line start list count good) (places : ℕ) where
   -- 28 may be put of the count
   count-fits : countFits start count ≡ countFits (lineStart line) (length (lineFields line))
-  count-fits = by (leb (length (lineFields line)) 513) refl
-    where
-      by : (t : Bool) → leb (length (lineFields line)) 513 ≡ t → countFits start count ≡ countFits (lineStart line) (length (lineFields line))
-      by true e =
-          let few : length (lineFields line) ≤ 513 = leb-true (length (lineFields line)) 513 e in
-          rw (k .is, k .counted few)
-      by false e =
-          let many : 513 < length (lineFields line) = leb-false (length (lineFields line)) 513 e in
-          too-many start count (k .many many) ∙ sym (too-many (lineStart line) (length (lineFields line)) many)
+  count-fits =
+      by-cases (decLt 513 (length (lineFields line)))
+      (λ many. too-many start count (k .many many) ∙ sym (too-many (lineStart line) (length (lineFields line)) many)) (λ few. rw (k .is, k .counted (omega arith)))
 
   started : ltb 0 (lineStart line) ≡ true
   started = lt-ltb 0 (lineStart line) (omega (arith, k .is, k .some))
@@ -182,13 +178,9 @@ module _ {line : List ℕ} {start : ℕ} {list : List ℕ} {count : ℕ} {good :
 
   module _ (f : countFits start count ≡ true) where
     few : length (lineFields line) ≤ 513
-    few = by (leb (length (lineFields line)) 513) refl
-      where
-        by : (t : Bool) → leb (length (lineFields line)) 513 ≡ t → length (lineFields line) ≤ 513
-        by true e = leb-true (length (lineFields line)) 513 e
-        by false e =
-            let many : 513 < length (lineFields line) = leb-false (length (lineFields line)) 513 e in
-            absurd (false≢true (sym (too-many (lineStart line) (length (lineFields line)) many) ∙ sym count-fits ∙ f))
+    few =
+        by-cases (decLt 513 (length (lineFields line)))
+        (λ many. absurd (false≢true (sym (too-many (lineStart line) (length (lineFields line)) many) ∙ sym count-fits ∙ f))) (λ few. omega arith)
 
     pub count-is : count ≡ length (lineFields line)
     count-is = k .counted few

@@ -1,11 +1,11 @@
 -- Where a field's bytes lie in the line. Assumes nothing.
 use mathlib.Core.Path.{_≡_, refl, sym, ap, _∙_}
-use mathlib.Core.Bool.{Bool, true, false}
+use mathlib.Core.Logic.{by-cases}
 use mathlib.Core.List.{List, [], _∷_, map, map-append}
 use Prim.Native.Nat.{ℕ, suc, _+_, _≤_, _<_}
+use native.Mathlib.Decide.{decLt}
 use native.Mathlib.Omega.{arith}
-use borrow.Author.Tests.{ltb-true, leb-true, leb-false}
-use lib.Dec.{eqb, leb}
+use borrow.Author.Tests.{ltb-true}
 use lib.ListN.{length, take, drop, length-drop, take-append-drop}
 use denote.Ref.{RefT}
 use Rattle.lists.specs.Lists.{sum}
@@ -13,7 +13,7 @@ use Rattle.lists.proofs.Questions.{asked, refuses, accepts}
 use Rattle.lists.proofs.Sums.{sum-append}
 use Rattle.lines.specs.Fields.{toFirst, fields, fieldNumber, fieldBytes, startOf, fieldStart, Part}
 use Rattle.lines.specs.Inner.{firstField, Starts}
-use Rattle.lines.proofs.Commas.{fields-some, field-absent, field-there}
+use Rattle.lines.proofs.Commas.{by-commas, fields-some, field-absent, field-there}
 
 -- ---- how many bytes the fields have
 
@@ -25,13 +25,7 @@ first-longer b (f ∷ fs) h = omega arith
 -- with a comma before each but the first they make the line
 all-bytes : (l : List ℕ) → sum (map length (fields l)) + length (fields l) ≡ suc (length l)
 unfolding fields sum
-all-bytes [] = refl
-all-bytes (b ∷ bs) = by (eqb b 44) refl (all-bytes bs)
-  where
-    by : (t : Bool) → eqb b 44 ≡ t → sum (map length (fields bs)) + length (fields bs) ≡ suc (length bs)
-        → sum (map length (fields (b ∷ bs))) + length (fields (b ∷ bs)) ≡ suc (suc (length bs))
-    by true e ih = rw e (omega (arith, ih))
-    by false e ih = rw e (first-longer b (fields bs) (fields-some bs) ∙ ap suc ih)
+all-bytes = by-commas refl (λ bs ih. omega (arith, ih)) (λ b bs e ih. rw e (first-longer b (fields bs) (fields-some bs) ∙ ap suc ih))
 
 split-bytes : (i : ℕ) (fs : List (List ℕ)) → sum (map length fs) ≡ sum (map length (take i fs)) + sum (map length (drop i fs))
 split-bytes i fs =
@@ -40,7 +34,7 @@ split-bytes i fs =
 
 -- ---- where a field starts
 
-pub starts-there : (l : List ℕ) (index r : ℕ) → r ≤ length l → index < length (fields l) → drop index (fields l) ≡ fields (drop r l) → r ≡ startOf l index
+starts-there : (l : List ℕ) (index r : ℕ) → r ≤ length l → index < length (fields l) → drop index (fields l) ≡ fields (drop r l) → r ≡ startOf l index
 unfolding startOf
 starts-there l index r h k e =
     let a = all-bytes l in
@@ -68,11 +62,7 @@ module _ (l : List ℕ) (index : ℕ) {n : ℕ} (e : n ≡ fieldNumber l index) 
 
     module _ {r : ℕ} (s : Starts l index r) where
       pub in-line : r ≤ length l
-      in-line = by (leb r (length l)) refl
-        where
-          by : (t : Bool) → leb r (length l) ≡ t → r ≤ length l
-          by true p = leb-true r (length l) p
-          by false p = absurd (omega (arith, field-absent s (leb-false r (length l) p), present))
+      in-line = by-cases (decLt (length l) r) (λ p. absurd (omega (arith, field-absent s p, present))) (λ h. omega arith)
 
       pub start-there : r ≡ fieldStart l index
       unfolding fieldStart

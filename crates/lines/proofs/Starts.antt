@@ -1,15 +1,16 @@
 -- Laws of line starts. Assumes nothing.
 use mathlib.Core.Path.{_≡_, refl, sym, _∙_}
+use mathlib.Core.Logic.{by-cases}
 use mathlib.Core.Bool.{Bool, true, false, false≢true, cond, _&&_}
 use mathlib.Core.List.{List, [], _∷_}
-use Prim.Native.Nat.{ℕ, suc, _+_, _≤_, _<_}
-use native.Mathlib.Numerals.{add-one}
+use Prim.Native.Nat.{ℕ, _+_, _≤_, _<_}
+use native.Mathlib.Decide.{decLt}
 use native.Mathlib.Omega.{arith}
 use borrow.Author.Tests.{eq-eqb, ne-eqb}
 use lib.Dec.{eqb}
 use lib.ListN.{length, drop, getD, drop-of-length-le}
-use lib.Seq.{drop-cons}
-use Rattle.lists.proofs.Questions.{and-second, both, above, asks}
+use Rattle.lists.proofs.Loops.{drop-more}
+use Rattle.lists.proofs.Questions.{and-second, by-case, above, asks}
 use Rattle.lines.specs.Reading.{startsWith, monthStart, plantStart, periodStart, meterStart, lineStart, startLength, countFits}
 
 -- ---- a definition by cases, for `search cases`
@@ -41,14 +42,14 @@ module _ {bytes line : List ℕ} where
   matching h = record { room = h; whole = refl }
 
   module _ {i : ℕ} (m : Matching bytes line i) where
-    step : i < length bytes → startsWith bytes line ≡ (eqb (getD line i 0) (getD bytes i 0) && startsWith (drop (suc i) bytes) (drop (suc i) line))
+    step : i < length bytes → startsWith bytes line ≡ (eqb (getD line i 0) (getD bytes i 0) && startsWith (drop (i + 1) bytes) (drop (i + 1) line))
     unfolding startsWith
     step h =
         let k : i < length line = omega (arith, m .room) in
-        m .whole ∙ rw (drop-cons bytes i 0, drop-cons line i 0)
+        m .whole ∙ rw (drop-more bytes i 0, drop-more line i 0)
 
     pub matching-more : i < length bytes → getD line i 0 ≡ getD bytes i 0 → Matching bytes line (i + 1)
-    matching-more h e = record { room = m .room; whole = step h ∙ rw (eq-eqb (getD line i 0) (getD bytes i 0) e, add-one) }
+    matching-more h e = record { room = m .room; whole = step h ∙ rw (eq-eqb (getD line i 0) (getD bytes i 0) e) }
 
     pub mismatched : i < length bytes → (getD line i 0 ≡ getD bytes i 0 → ⊥) → false ≡ startsWith bytes line
     mismatched h n = sym (step h ∙ rw (ne-eqb (getD line i 0) (getD bytes i 0) n))
@@ -60,14 +61,7 @@ module _ {bytes line : List ℕ} where
 -- ---- what a start tells
 
 pub starts-long : (bytes line : List ℕ) → startsWith bytes line ≡ true → length bytes ≤ length line
-unfolding startsWith
-starts-long [] line e = omega arith
-starts-long (b ∷ bs) [] e = absurd (false≢true e)
-starts-long (b ∷ bs) (x ∷ line) e = let ih = starts-long bs line (both (eqb x b) (startsWith bs line) e .1) in omega arith
-
-by-case : {A : Type 0} (P : A → Type 0) (b : Bool) (x y : A) → (b ≡ true → P x) → (b ≡ false → P y) → P (cond b x y)
-by-case P true x y f g = f refl
-by-case P false x y f g = g refl
+starts-long bytes line e = by-cases (decLt (length line) (length bytes)) (λ h. absurd (false≢true (starts-short bytes line h ∙ e))) (λ h. omega arith)
 
 -- a line with a start has its bytes
 pub start-room : (line : List ℕ) → (lineStart line ≡ 0 → ⊥) → startLength (lineStart line) ≤ length line

@@ -12,6 +12,7 @@ use Rattle.lines.specs.Reading.{meterStart, readCall}
 unfoldable pub meterLine : ℕ → List ℕ → List ℕ
 meterLine period metered = meterStart ++ byCommas (map figure (period ∷ metered))
 
+-- What is promised of the next comma, and of a G line that is read back
 pub record Promised : Type 0 where
   -- from each start in the line: the first comma there or later, or the line's end where there is none
   pub inside : (line : List ℕ) (from : ℕ) → from ≤ length line → (from ≤ nextComma line from) × (nextComma line from ≤ length line)

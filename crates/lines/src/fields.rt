@@ -1,4 +1,5 @@
 // Fields of a line, parted by commas: where the next comma stands, and a field handed back as a part of the line.
+use lists::PLANTS;
 ghost use mathlib.Core.Path.{_≡_};
 ghost use Prim.Native.Nat.{_≤_};
 ghost use lib.ListN.{length, drop};
@@ -7,6 +8,9 @@ ghost use Rattle.lines.specs.Inner.{firstField, Starts};
 
 // The most bytes that a line may have.
 pub const LONGEST: usize = 8192;
+
+// The most figures of a line: a G line's period and metered figures.
+pub const FIELDS: usize = PLANTS + 1;
 
 // From a start, the first comma there or later, or the line's end where there is none.
 pub fn next_comma(line: &[u8], from: usize) -> usize

@@ -5,6 +5,7 @@ ghost use lib.ListN.{length, drop};
 ghost use Rattle.lines.specs.Fields.{fields};
 ghost use Rattle.lines.specs.Reading.{startsWith, lineStart, startLength, countFits, refusal, ReadEnd, readCall};
 ghost use Rattle.lines.specs.Inner.{ReadTo};
+use crate::fields::FIELDS;
 use crate::fields::LONGEST;
 use crate::fields::field_at;
 use figures::reading::read_figure;
@@ -75,7 +76,7 @@ fn count_fits(start: u64, count: usize) -> bool
     if start == 3 {
         return count == 2;
     }
-    lists::in_range(2, 513, count as u64)
+    lists::in_range(2, FIELDS as u64, count as u64)
 }
 
 // Fields as read: how many there are, and whether each is a figure.
@@ -155,6 +156,6 @@ fn read_over(line: &[u8], own: &mut [u64], figures: &mut [u64]) -> Line
 pub fn read_line(line: &[u8], figures: &mut [u64]) -> Line
     ensures { λ r. ⌜ _≡_ {A = ReadEnd} (record { answer = r; figures = now (figures .exit) }) (readCall (now (line .entry)) (now (figures .entry))) ⌝ }
 {
-    let mut own: [u64; 513] = [0; 513];
+    let mut own: [u64; FIELDS] = [0; FIELDS];
     read_over(line, &mut own, figures)
 }

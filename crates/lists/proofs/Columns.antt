@@ -1,6 +1,6 @@
 -- Laws of columns: figures row by row, sums, and the rows of a submarket. Assumes nothing.
 use mathlib.Core.Path.{_≡_, refl, sym, ap, _∙_, subst}
-use mathlib.Core.Logic.{_⊎_, inl, inr}
+use mathlib.Core.Logic.{_⊎_, inl, inr, by-cases}
 use Prim.Native.Nat.{ℕ, zero, suc, _+_, _-_, min, max, _≤_, _<_}
 use native.Mathlib.Omega.{arith}
 use native.Mathlib.Decide.{decLt}
@@ -12,8 +12,8 @@ use borrow.Author.Tests.{ne-eqb}
 use lib.ListN.{length, getD, List·getD-map, List·getD-eq-default}
 use lib.Seq.{ext-getD}
 use Rattle.lists.specs.Lists.{sum, table}
-use Rattle.lists.specs.Columns.{rowwise, _⊕_, _⊖_, _⊓_, joined, inside, beyond, within, outside, four, at, totals, transpose}
-use Rattle.lists.proofs.Sums.{at-le-sum, length-table, getD-table}
+use Rattle.lists.specs.Columns.{rowwise, _⊕_, _⊖_, _⊓_, Below, joined, inside, beyond, within, outside, four, at, totals, transpose}
+use Rattle.lists.proofs.Sums.{at-le-sum, length-table, getD-table, table-getD}
 
 infixl 80 _!_
 -- the figure of row i
@@ -58,6 +58,16 @@ module _ {A B C : Type 0} (f : A → B → C) (a : A) (b : B) where
       (length-rowwise xs ys ∙ (let e = length-table (λ i. f (getD xs i a) (getD ys i b)) n in omega arith))
       (λ i h. rowwise-at xs ys i ∙ sym (getD-table (λ i. f (getD xs i a) (getD ys i b)) n i (f a b) (let e = length-rowwise xs ys in omega arith)))
 
+-- zeros on the right change nothing
+pub rowwise-nothing : (f : ℕ → ℕ → ℕ) → ((x : ℕ) → f x 0 ≡ x) → (xs ps : List ℕ) → length ps ≤ length xs → ((i : ℕ) → ps ! i ≡ 0) → rowwise f 0 0 xs ps ≡ xs
+rowwise-nothing f unit xs ps l z =
+    ext-getD 0 (rowwise f 0 0 xs ps) xs (let a = length-rowwise f 0 0 xs ps in omega arith)
+    (λ i _. getD-rowwise f 0 0 (unit 0) xs ps i ∙ ap (f (xs ! i)) (z i) ∙ unit (xs ! i))
+
+-- of a mapped list, with the default's image past the end
+pub getD-map : {A B : Type 0} (f : A → B) (a : A) {b : B} → f a ≡ b → (xs : List A) (i : ℕ) → getD (map f xs) i b ≡ f (getD xs i a)
+getD-map f a e xs i = subst (λ b. getD (map f xs) i b ≡ f (getD xs i a)) e (List·getD-map f xs i a)
+
 module _ (xs ys : List ℕ) (i : ℕ) where
   pub at-⊕ : (xs ⊕ ys) ! i ≡ xs ! i + ys ! i
   at-⊕ = getD-rowwise _+_ 0 0 refl xs ys i
@@ -94,13 +104,28 @@ sum-tight (x ∷ xs) (y ∷ ys) h s zero = let r = sum-le xs ys (λ i. h (suc i)
 sum-tight (x ∷ xs) (y ∷ ys) h s (suc i) = sum-tight xs ys (λ i. h (suc i)) (let z = h 0 in omega arith) i
 
 -- a difference of columns, the second nowhere above the first
-pub sum-⊖ : (xs ys : List ℕ) → ((i : ℕ) → ys ! i ≤ xs ! i) → sum (xs ⊖ ys) + sum ys ≡ sum xs
-sum-⊖ xs ys h =
-    sym (sum-⊕ (xs ⊖ ys) ys)
-    ∙ sum-ext (xs ⊖ ys ⊕ ys) xs (λ i. at-⊕ (xs ⊖ ys) ys i ∙ (let a = h i in let b = at-⊖ xs ys i in omega arith))
+put-back : (xs ys : List ℕ) → Below ys xs → (i : ℕ) → (xs ⊖ ys ⊕ ys) ! i ≡ xs ! i
+put-back xs ys h i = let a = h i in let b = at-⊖ xs ys i in let c = at-⊕ (xs ⊖ ys) ys i in omega arith
+
+pub sum-⊖ : (xs ys : List ℕ) → Below ys xs → sum (xs ⊖ ys) + sum ys ≡ sum xs
+sum-⊖ xs ys h = sym (sum-⊕ (xs ⊖ ys) ys) ∙ sum-ext (xs ⊖ ys ⊕ ys) xs (put-back xs ys h)
+
+-- what is left of a column, and the smaller of two, are nowhere above it
+pub below-⊖ : (xs ys : List ℕ) → Below (xs ⊖ ys) xs
+below-⊖ xs ys i = let a = at-⊖ xs ys i in omega arith
+
+pub min-left : (xs ys : List ℕ) → Below (xs ⊓ ys) xs
+min-left xs ys i = let a = at-⊓ xs ys i in omega arith
+
+pub min-right : (xs ys : List ℕ) → Below (xs ⊓ ys) ys
+min-right xs ys i = let a = at-⊓ xs ys i in omega arith
+
+-- a column that is nowhere above another, and a second nowhere above what it leaves of it: nor are both together
+pub below-⊕ : (xs ys zs : List ℕ) → Below xs zs → Below ys (zs ⊖ xs) → Below (xs ⊕ ys) zs
+below-⊕ xs ys zs h k i = let a = at-⊕ xs ys i in let b = at-⊖ zs xs i in let c = h i in let d = k i in omega arith
 
 pub fewer : (xs ys : List ℕ) → sum (xs ⊖ ys) ≤ sum xs
-fewer xs ys = sum-le (xs ⊖ ys) xs (λ i. let a = at-⊖ xs ys i in omega arith)
+fewer xs ys = sum-le (xs ⊖ ys) xs (below-⊖ xs ys)
 
 pub sum-nil : (xs : List ℕ) → ((i : ℕ) → xs ! i ≡ 0) → sum xs ≡ 0
 unfolding sum
@@ -116,23 +141,28 @@ pub at-map-sum : (cs : List (List ℕ)) (i : ℕ) → map sum cs ! i ≡ sum (ge
 unfolding sum
 at-map-sum cs i = List·getD-map sum cs i []
 
+pub joined-at : (cs : List (List ℕ)) (i : ℕ) → sum (map (λ c. c ! i) cs) ≡ joined cs ! i
+unfolding joined sum
+joined-at [] i = refl
+joined-at (c ∷ cs) i = let h = joined-at cs i in let k = at-⊕ c (joined cs) i in omega arith
+
 pub at-joined : (cs : List (List ℕ)) (g i : ℕ) → getD cs g [] ! i ≤ joined cs ! i
 unfolding joined
 at-joined [] g i = omega arith
 at-joined (c ∷ cs) zero i = let a = at-⊕ c (joined cs) i in omega arith
 at-joined (c ∷ cs) (suc g) i = let a = at-⊕ c (joined cs) i in let b = at-joined cs g i in omega arith
 
+-- a list of four is its four
+pub four-is : {A : Type 0} (d : A) (xs : List A) → length xs ≡ 4 → xs ≡ getD xs 0 d ∷ getD xs 1 d ∷ getD xs 2 d ∷ getD xs 3 d ∷ []
+four-is d xs e = sym (rw e at (table-getD d xs))
+
 pub joined-four : (cs : List (List ℕ)) → length cs ≡ 4 → (i : ℕ)
     → joined cs ! i ≡ at 1 cs [] ! i + at 2 cs [] ! i + at 3 cs [] ! i + at 4 cs [] ! i
 unfolding joined
-joined-four (a ∷ b ∷ c ∷ d ∷ []) e i =
+joined-four cs e i =
+    let a = at 1 cs [] in let b = at 2 cs [] in let c = at 3 cs [] in let d = at 4 cs [] in
     let h = at-⊕ a (b ⊕ (c ⊕ (d ⊕ []))) i in let k = at-⊕ b (c ⊕ (d ⊕ [])) i in let l = at-⊕ c (d ⊕ []) i in let m = at-⊕ d [] i in
-    omega arith
-joined-four [] e i = absurd (omega arith)
-joined-four (a ∷ []) e i = absurd (omega arith)
-joined-four (a ∷ b ∷ []) e i = absurd (omega arith)
-joined-four (a ∷ b ∷ c ∷ []) e i = absurd (omega arith)
-joined-four (a ∷ b ∷ c ∷ d ∷ x ∷ xs) e i = absurd (omega arith)
+    ap (λ l. joined l ! i) (four-is [] cs e) ∙ omega arith
 
 -- ---- columns turned into rows
 module _ {A B : Type 0} (d : A) (f : List A → B) (e : f [] ≡ f (d ∷ [])) where
@@ -150,9 +180,6 @@ unfolding transpose
 getD-transpose d [] g r = refl
 getD-transpose d (c ∷ cs) g zero = beside d (λ row. getD row 0 d) refl c (transpose d cs) g
 getD-transpose d (c ∷ cs) g (suc r) = beside d (λ row. getD row (suc r) d) refl c (transpose d cs) g ∙ getD-transpose d cs g r
-
-pub transpose-at : (cs : List (List ℕ)) (g r : ℕ) → getD (transpose 0 cs) g [] ! r ≡ getD cs r [] ! g
-transpose-at = getD-transpose 0
 
 pub transpose-sum : (cs : List (List ℕ)) (g : ℕ) → sum (getD (transpose 0 cs) g []) ≡ joined cs ! g
 unfolding transpose sum joined
@@ -201,11 +228,9 @@ four-at f d = each (λ s. at s (four f) d ≡ f s) refl refl refl refl
 
 -- four figures, each below its bound
 pub four-le : {a b c d : ℕ} (bound : ℕ → ℕ) → a ≤ bound 0 → b ≤ bound 1 → c ≤ bound 2 → d ≤ bound 3 → (i : ℕ) → (a ∷ b ∷ c ∷ d ∷ []) ! i ≤ bound i
-four-le bound p q r s zero = p
-four-le bound p q r s (suc zero) = q
-four-le bound p q r s (suc (suc zero)) = r
-four-le bound p q r s (suc (suc (suc zero))) = s
-four-le bound p q r s (suc (suc (suc (suc i)))) = omega arith
+four-le {a} {b} {c} {d} bound p q r s i =
+    by-cases (decLt i 4) (below-four (λ i. (a ∷ b ∷ c ∷ d ∷ []) ! i ≤ bound i) p q r s i)
+    (λ h. let e = List·getD-eq-default (a ∷ b ∷ c ∷ d ∷ []) 0 {n = i} (omega arith) in omega arith)
 
 pub cond-same : (b : Bool) → _≡_ {A = ℕ} (cond b 0 0) 0
 cond-same true = refl
@@ -243,11 +268,8 @@ module _ (s : ℕ) (subs : List ℕ) where
       ∙ sym (at-⊕ (within s subs xs) (within s subs ys) i ∙ (let h = at-within xs i in let k = at-within ys i in omega arith)))
       ∙ sum-⊕ (within s subs xs) (within s subs ys)
 
-  pub within-⊖ : (xs ys : List ℕ) → ((i : ℕ) → ys ! i ≤ xs ! i)
-      → sum (within s subs (xs ⊖ ys)) + sum (within s subs ys) ≡ sum (within s subs xs)
-  within-⊖ xs ys h =
-      sym (within-⊕ (xs ⊖ ys) ys)
-      ∙ within-ext (xs ⊖ ys ⊕ ys) xs (λ i. at-⊕ (xs ⊖ ys) ys i ∙ (let a = h i in let b = at-⊖ xs ys i in omega arith))
+  pub within-⊖ : (xs ys : List ℕ) → Below ys xs → sum (within s subs (xs ⊖ ys)) + sum (within s subs ys) ≡ sum (within s subs xs)
+  within-⊖ xs ys h = sym (within-⊕ (xs ⊖ ys) ys) ∙ within-ext (xs ⊖ ys ⊕ ys) xs (put-back xs ys h)
 
   pub within-nil : sum (within s subs []) ≡ 0
   within-nil = sum-nil (within s subs []) (λ i. at-within [] i ∙ cond-same (eqb (subs ! i) s))
@@ -279,11 +301,7 @@ sited-le subs xs ys h s i = go (s i) (h i)
 
 -- .. by its place among n rows that stand in the four
 pub sited-by : (subs xs : List ℕ) (n : ℕ) → length xs ≤ n → ((i : ℕ) → i < n → (1 ≤ subs ! i) × (subs ! i ≤ 4)) → Sited subs xs
-sited-by subs xs n le placed i = go (decLt i n)
-  where
-    go : Dec (i < n) → (xs ! i ≡ 0) ⊎ ((1 ≤ subs ! i) × (subs ! i ≤ 4))
-    go (yes lt) = inr (placed i lt)
-    go (no ge) = inl (List·getD-eq-default xs 0 (omega arith))
+sited-by subs xs n le placed i = by-cases (decLt i n) (λ lt. inr (placed i lt)) (λ ge. inl (List·getD-eq-default xs 0 (omega arith)))
 
 -- the four submarkets' figures of a row are its figure
 pub quarters : (t x : ℕ) → (x ≡ 0) ⊎ ((1 ≤ t) × (t ≤ 4)) → inside 1 t x + inside 2 t x + inside 3 t x + inside 4 t x ≡ x

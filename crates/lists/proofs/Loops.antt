@@ -39,7 +39,7 @@ module _ {ℓ κ} {A : Type ℓ} {R : Type κ} (f : List A → R) where
   pub rest-none : (l : List A) (i : ℕ) → length l ≤ i → f (drop i l) ≡ f []
   rest-none l i h = ap f (drop-of-length-le l h)
 
-at-drop {ℓ} : {A : Type ℓ} (l : List A) (i : ℕ) (d : A) → getD (drop i l) 0 d ≡ getD l i d
+pub at-drop {ℓ} : {A : Type ℓ} (l : List A) (i : ℕ) (d : A) → getD (drop i l) 0 d ≡ getD l i d
 at-drop l i d = getD-drop i l 0 d ∙ rw add-zero
 
 -- a store at i leaves what stands behind
@@ -95,8 +95,8 @@ module _ {ℓ} {A : Type ℓ} (f : ℕ → A) where
   pub tabling : (n : ℕ) (out₀ : List A) → n ≤ length out₀ → Tabling n 0 out₀ out₀
   tabling n out₀ h = rw sub-zero (filling h)
 
-  pub tabling-more : {n i : ℕ} {out₀ out : List A} {v : A} → Tabling n i out₀ out → i < n → f i ≡ v → Tabling n (i + 1) out₀ (set out i v)
-  tabling-more {n} {i} k h p = filling-more k h (table-more i n h) p
+  pub tabling-more : {n i : ℕ} {out₀ out : List A} {v : A} → Tabling n i out₀ out → i < n → v ≡ f i → Tabling n (i + 1) out₀ (set out i v)
+  tabling-more {n} {i} k h e = filling-more k h (table-more i n h) (sym e)
 
   pub tabled : {n i : ℕ} {out₀ out : List A} → Tabling n i out₀ out → n ≤ i → out ≡ table n f ++ drop n out₀
   tabled {n} {i} k h = filled k h (table-none i n h)
@@ -109,15 +109,8 @@ module _ {ℓ} {A : Type ℓ} {g : ℕ → A → A} {d : A} {n : ℕ} {out₀ : 
   pub updating : n ≤ length out₀ → Updating g d n 0 out₀ out₀
   updating h = record { now = tabling _ n out₀ h }
 
-  -- what stands at i is still what stood there
-  pub updating-kept : {i : ℕ} {out : List A} → Updating g d n i out₀ out → getD out i d ≡ getD out₀ i d
-  updating-kept k = filling-kept (k .now) d
-
   pub updating-more : {i : ℕ} {out : List A} {v : A} → Updating g d n i out₀ out → i < n → v ≡ g i (getD out i d) → Updating g d n (i + 1) out₀ (set out i v)
-  updating-more {i} k h e = record { now = tabling-more _ (k .now) h (ap (g i) (sym (updating-kept k)) ∙ sym e) }
-
-  pub updated : {i : ℕ} {out : List A} → Updating g d n i out₀ out → n ≤ i → out ≡ table n (λ (j : ℕ). g j (getD out₀ j d)) ++ drop n out₀
-  updated k h = tabled _ (k .now) h
+  updating-more {i} k h e = record { now = tabling-more _ (k .now) h (e ∙ ap (g i) (filling-kept (k .now) d)) }
 
 -- A loop that sums a list, with s the sum so far and rest what is left.
 pub record Adding (l rest : List ℕ) (s : ℕ) : Type 0 where
@@ -201,4 +194,4 @@ table-constant n v = go n 0
     go (suc n) i = ap (λ l. v ∷ l) (go n (i + 1))
 
 -- For `search loops` at the needs of a loop.
-pub ruleset loops = (filling, tabling, tabling-more, tabled, updating, updating-more, updated, adding, adding-next, adding-fits, added, drop-of-length-le, limiting, limiting-more, exceeded, limited, needs)
+pub ruleset loops = (filling, tabling, tabling-more, tabled, updating, updating-more, adding, adding-next, adding-fits, added, drop-of-length-le, limiting, limiting-more, exceeded, limited, needs)

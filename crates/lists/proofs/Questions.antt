@@ -1,15 +1,15 @@
 -- Laws of questions. `search asks` proves an answer `r ≡ firstNo (..)` from the tests that led to it, one `if` for each comparison or call;
 -- `search tests` proves what a function of a few joined tests answers; `search outcomes` proves what a call leaves by its number. Assumes nothing.
-use Prim.Native.Nat.{ℕ, zero, suc, _*_, _<_, _≤_}
-use mathlib.Core.Bool.{Bool, true, false, false≢true, not, _&&_, _||_}
+use Prim.Native.Nat.{ℕ, zero, suc, _<_, _≤_, _^_}
+use mathlib.Core.Bool.{Bool, true, false, false≢true, not, cond, _&&_, _||_}
 use mathlib.Core.List.{List, [], _∷_}
 use mathlib.Core.Path.{_≡_, refl, sym, ap, _∙_, subst}
 use native.Mathlib.Omega.{arith}
 use borrow.Author.Tests.{leb-true, not-true, not-false, le-leb, lt-leb, lt-ltb, le-ltb, eq-eqb, ne-eqb}
 use lib.Dec.{T, eqb, ltb, leb}
 use lib.ListN.{length, getD}
-use Rattle.lists.specs.Lists.{sum, every, atMost}
-use Rattle.lists.proofs.Bounds.{sum-bound}
+use Rattle.lists.specs.Lists.{sum, most, every, atMost}
+use Rattle.lists.proofs.Bounds.{hours-small}
 use Rattle.lists.specs.Questions.{_then_, Question, _⁇_, part, firstNo, inRange, outcome}
 
 pub then-yes : (n m r : ℕ) → 0 ≡ n → r ≡ m → r ≡ n then m
@@ -64,6 +64,11 @@ parted n qs e = then-zero n (firstNo qs) e
 pub both : (a b : Bool) → (a && b) ≡ true → (a ≡ true) × (b ≡ true)
 both true b e = (refl, e)
 both false b e = absurd (false≢true e)
+
+-- what holds of either answer to a test holds of the one that it picks
+pub by-case : {A : Type 0} (P : A → Type 0) (b : Bool) (x y : A) → (b ≡ true → P x) → (b ≡ false → P y) → P (cond b x y)
+by-case P true x y f g = f refl
+by-case P false x y f g = g refl
 
 -- what a call answers by its contract, after a test `if !call(..)`, and after `if call(..)`
 pub refused : (x y : Bool) → x ≡ y → not x ≡ true → y ≡ false
@@ -195,9 +200,9 @@ pub at-most-at : (xs : List ℕ) (n : ℕ) → atMost n xs ≡ true → (i : ℕ
 unfolding atMost
 at-most-at xs n e i = leb-true _ n (every-at (λ x. leb x n) xs 0 (le-leb 0 n (omega arith)) e i)
 
--- figures at most n: their sum is at most n for each
-pub sum-at-most : (xs : List ℕ) (n : ℕ) → atMost n xs ≡ true → sum xs ≤ length xs * n
-sum-at-most xs n e = sum-bound xs n (record { at = at-most-at xs n e })
+-- figures in limits: their sum
+pub sum-hours : (xs : List ℕ) → length xs ≤ 744 → atMost most xs ≡ true → sum xs < 2 ^ 43
+sum-hours xs l e = hours-small xs l (record { at = at-most-at xs most e })
 
 pub ruleset asks = (no, yes, part-no, part-yes, part-last, all-yes, le-leb, lt-leb, lt-ltb, le-ltb, eq-eqb, ne-eqb, refused, granted, called-no, called-yes, none, some, eq-of, ne-of, below, above, in-range, not-yes, not-no, and-both, and-first, and-second, refl)
 

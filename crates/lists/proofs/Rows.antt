@@ -2,14 +2,18 @@
 use mathlib.Core.Path.{_≡_, refl, sym, ap, _∙_, subst}
 use Prim.Native.Nat.{ℕ, zero, suc, _+_, _-_, _*_, _/_, _%_, _≤_, _<_}
 use native.Mathlib.Omega.{arith}
+use native.Mathlib.Decide.{decLt}
+use mathlib.Core.Logic.{by-cases}
 use native.Mathlib.Numerals.{add-one}
 use native.Mathlib.Nat.{add-zero, zero-add, suc-add, mul-add, mul-one, suc-mul, zero-mul, mul-zero, add-sub-cancel, mod-lt, div-add-mod'}
 use mathlib.Core.List.{List, [], _∷_, _++_, flatten}
-use lib.ListN.{length, getD, take, drop, replicate, length-append, drop-of-length-le, List·getD-append}
-use lib.Seq.{drop-cons, drop-drop, getD-drop, getD-append-add, ext-getD}
-use Rattle.lists.specs.Lists.{sum, table, tableFrom, Within}
+use lib.ListN.{length, getD, take, drop, replicate, length-append, drop-of-length-le, List·getD-append, List·getD-eq-default}
+use lib.Seq.{drop-cons, drop-drop, getD-append-add, ext-getD}
+use Rattle.lists.specs.Lists.{sum, table, Within}
 use Rattle.lists.specs.Columns.{rowwise, four, transpose, byRow, column}
-use Rattle.lists.proofs.Columns.{_!_, length-rowwise, getD-transpose, four-at}
+use Rattle.lists.proofs.Sums.{length-table, getD-table}
+use Rattle.lists.proofs.Parts.{part-at, past-take}
+use Rattle.lists.proofs.Columns.{_!_, length-rowwise, getD-transpose, below-four, four-at, sum-ext}
 use Rattle.lists.proofs.Bounds.{sum-bound}
 
 -- ---- a column
@@ -105,20 +109,14 @@ column-within w j l b h = omega (arith, column-le w j l, sum-bound l b h)
 -- ---- columns of one length, row by row
 -- each column has n figures
 abbrev pub Even : {A : Type 0} → ℕ → List (List A) → Type 0
-Even n [] = Unit {0}
-Even n (c ∷ cs) = (length c ≡ n) × Even n cs
-
-even-at : {A : Type 0} (n : ℕ) (cs : List (List A)) → Even n cs → (j : ℕ) → j < length cs → length (getD cs j []) ≡ n
-even-at n [] e j h = absurd (omega arith)
-even-at n (c ∷ cs) e zero h = e .0
-even-at n (c ∷ cs) e (suc j) h = even-at n cs (e .1) j (omega arith)
+Even n cs = (j : ℕ) → j < length cs → length (getD cs j []) ≡ n
 
 module _ {A : Type 0} (d : A) where
   -- n rows, of as many figures as there are columns
   rows-even : (n : ℕ) (c : List A) (cs : List (List A)) → Even n (c ∷ cs) → length (transpose d (c ∷ cs)) ≡ n
   unfolding transpose
-  rows-even n c [] e = length-rowwise _∷_ d [] c [] ∙ (let p = e .0 in omega arith)
-  rows-even n c (b ∷ cs) e = length-rowwise _∷_ d [] c (transpose d (b ∷ cs)) ∙ (let p = e .0 in let q = rows-even n b cs (e .1) in omega arith)
+  rows-even n c [] e = length-rowwise _∷_ d [] c [] ∙ (let p = e 0 (omega arith) in omega arith)
+  rows-even n c (b ∷ cs) e = length-rowwise _∷_ d [] c (transpose d (b ∷ cs)) ∙ (let p = e 0 (omega arith) in let q = rows-even n b cs (λ j h. e (suc j) (omega arith)) in omega arith)
 
   beside-length : (c : List A) (rows : List (List A)) (i : ℕ) → i < length c
       → length (getD (rowwise _∷_ d [] c rows) i []) ≡ suc (length (getD rows i []))
@@ -132,13 +130,10 @@ module _ {A : Type 0} (d : A) where
   row-even : (n : ℕ) (cs : List (List A)) → Even n cs → (i : ℕ) → i < n → length (getD (transpose d cs) i []) ≡ length cs
   unfolding transpose
   row-even n [] e i h = refl
-  row-even n (c ∷ cs) e i h = beside-length c (transpose d cs) i (let p = e .0 in omega arith) ∙ ap suc (row-even n cs (e .1) i h)
+  row-even n (c ∷ cs) e i h = beside-length c (transpose d cs) i (let p = e 0 (omega arith) in omega arith) ∙ ap suc (row-even n cs (λ j h. e (suc j) (omega arith)) i h)
 
   module _ (w : ℕ) where
-    abbrev Wide : List (List A) → Type 0
-    Wide rows = (i : ℕ) → i < length rows → length (getD rows i []) ≡ w
-
-    length-flatten : (rows : List (List A)) → Wide rows → length (flatten rows) ≡ w * length rows
+    length-flatten : (rows : List (List A)) → Even w rows → length (flatten rows) ≡ w * length rows
     unfolding flatten
     length-flatten [] e = sym (mul-zero w)
     length-flatten (r ∷ rows) e =
@@ -147,7 +142,7 @@ module _ {A : Type 0} (d : A) where
         let c = e 0 (omega arith) in
         omega (arith, mul-add w (length rows) 1, mul-one w, ap (λ (n : ℕ). w * n) (add-one (length rows)))
 
-    flatten-at : (rows : List (List A)) → Wide rows → (i j : ℕ) → j < w → getD (flatten rows) (j + i * w) d ≡ getD (getD rows i []) j d
+    flatten-at : (rows : List (List A)) → Even w rows → (i j : ℕ) → j < w → getD (flatten rows) (j + i * w) d ≡ getD (getD rows i []) j d
     unfolding flatten
     flatten-at [] e i j h = refl
     flatten-at (r ∷ rows) e zero j h =
@@ -158,7 +153,7 @@ module _ {A : Type 0} (d : A) where
         ∙ getD-append-add r (flatten rows) (j + i * w) d ∙ flatten-at rows (λ i h. e (suc i) (omega arith)) i j h
 
   module _ (n : ℕ) (c : List A) (cs : List (List A)) (e : Even n (c ∷ cs)) where
-    wide : (i : ℕ) → i < length (transpose d (c ∷ cs)) → length (getD (transpose d (c ∷ cs)) i []) ≡ suc (length cs)
+    wide : Even (suc (length cs)) (transpose d (c ∷ cs))
     wide i h = row-even n (c ∷ cs) e i (let p = rows-even n c cs e in omega arith)
 
     pub length-byRow : length (byRow d (c ∷ cs)) ≡ suc (length cs) * n
@@ -172,13 +167,13 @@ module _ {A : Type 0} (d : A) where
     column-byRow j h =
         let w : ℕ = suc (length cs) in
         ext-getD d (column w j (byRow d (c ∷ cs))) (getD (c ∷ cs) j [])
-        (length-column d w j h (byRow d (c ∷ cs)) n length-byRow ∙ sym (even-at n (c ∷ cs) e j h))
+        (length-column d w j h (byRow d (c ∷ cs)) n length-byRow ∙ sym (e j h))
         (λ i _. column-at w j (omega arith) (byRow d (c ∷ cs)) i d ∙ at-byRow i j h)
 
 -- a column for each of the four submarkets, n figures each
 module _ (f : ℕ → List ℕ) (n : ℕ) (sized : (s : ℕ) → length (f s) ≡ n) where
   even : Even n (four f)
-  even = (sized 1, (sized 2, (sized 3, (sized 4, tt))))
+  even = below-four _ (sized 1) (sized 2) (sized 3) (sized 4)
 
   pub fours-sized : length (byRow 0 (four f)) ≡ 4 * n
   fours-sized = length-byRow 0 n (f 1) (f 2 ∷ f 3 ∷ f 4 ∷ []) even
@@ -194,33 +189,15 @@ by-fours P h =
     by-places P 4 (omega arith) (λ i j l. subst (λ (m : ℕ). P (m + i * 4)) (add-sub-cancel j 1) (h (j + 1) (omega arith) (omega arith) i))
 
 -- ---- a row
--- the first w figures of a list, as a table
-front : (w : ℕ) (l : List ℕ) → sum (take w l) ≡ sum (table w (λ k. l ! k))
-unfolding sum
-front w l = go w 0 l (λ k. l ! k) (λ k. ap (λ (j : ℕ). l ! j) (zero-add k))
-  where
-    go : (w i : ℕ) (l : List ℕ) (f : ℕ → ℕ) → ((k : ℕ) → f (i + k) ≡ l ! k) → sum (take w l) ≡ sum (tableFrom f i w)
-    go zero i l f e = refl
-    go (suc w) i [] f e =
-        let a = e 0 ∙ refl in let b = go w (i + 1) [] f (λ k. ap f (omega arith) ∙ e (suc k)) in let c = ap f (add-zero i) in let z = none w in omega arith
-      where
-        none : (w : ℕ) → sum (take w []) ≡ 0
-        none zero = refl
-        none (suc w) = refl
-    go (suc w) i (x ∷ l) f e =
-        let a = e 0 in let b = go w (i + 1) l f (λ k. ap f (omega arith) ∙ e (suc k)) in let c = ap f (add-zero i) in omega arith
-
-table-ext : (w : ℕ) (f g : ℕ → ℕ) → ((k : ℕ) → f k ≡ g k) → (i : ℕ) → sum (tableFrom f i w) ≡ sum (tableFrom g i w)
-unfolding sum
-table-ext zero f g e i = refl
-table-ext (suc w) f g e i = let a = e i in let b = table-ext w f g e (i + 1) in omega arith
-
 -- the w figures of row i add up to those of its columns
 pub row-sum : (w : ℕ) → 0 < w → (l : List ℕ) (i : ℕ) → sum (take w (drop (w * i) l)) ≡ sum (table w (λ k. column w k l ! i))
 row-sum w p l i =
-    front w (drop (w * i) l)
-    ∙ table-ext w (λ k. drop (w * i) l ! k) (λ k. column w k l ! i)
-    (λ k. getD-drop (w * i) l k 0 ∙ ap (λ (j : ℕ). l ! j) (omega arith) ∙ sym (column-at w k p l i 0)) 0
+    sum-ext (take w (drop (w * i) l)) (table w f) (λ k. by-cases (decLt k w)
+    (λ h. part-at w (w * i) l k 0 h ∙ sym (column-place w k p l i 0 refl) ∙ sym (getD-table f w k 0 h))
+    (λ h. past-take 0 w (drop (w * i) l) k (omega arith) ∙ sym (List·getD-eq-default (table w f) 0 (let e = length-table f w in omega arith))))
+  where
+    f : ℕ → ℕ
+    f k = column w k l ! i
 
 pub at-replicate : {A : Type 0} (n i : ℕ) (a : A) → getD (replicate n a) i a ≡ a
 at-replicate zero i a = refl

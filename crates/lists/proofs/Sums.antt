@@ -30,9 +30,6 @@ pub sum-split : (l : List ℕ) (k : ℕ) → sum (take k l) + sum (drop k l) ≡
 sum-split l k = sym (sum-append (take k l) (drop k l)) ∙ ap sum (take-append-drop k l)
 
 -- a part is at most the sum
-pub take-le-sum : (l : List ℕ) (k : ℕ) → sum (take k l) ≤ sum l
-take-le-sum l k = omega (arith, sum-split l k)
-
 pub part-le-sum : (l : List ℕ) (a k : ℕ) → sum (take k (drop a l)) ≤ sum l
 part-le-sum l a k = omega (arith, sum-split (drop a l) k, sum-split l a)
 

@@ -17,6 +17,7 @@ pub data Question : Type 0 where
   _⁇_ : Bool → ℕ → Question
   part : ℕ → Question
 
+-- 'The first no gives its number .. With every question answered yes the number is 0'
 unfoldable pub firstNo : List Question → ℕ
 firstNo [] = 0
 firstNo (b ⁇ n ∷ qs) = cond b (firstNo qs) n

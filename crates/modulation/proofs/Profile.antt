@@ -1,5 +1,5 @@
 -- Step 1 by running totals of the profile, and steps 1 and 2 on columns. Assumes nothing.
-use mathlib.Core.Path.{_≡_, ap, _∙_}
+use mathlib.Core.Path.{_≡_, ap, _∙_, subst}
 use mathlib.Core.List.{List, [], _∷_, _++_}
 use Prim.Native.Nat.{ℕ, suc, _+_, _-_, _*_, _/_, _^_, _≤_, _<_}
 use native.Mathlib.Nat.{le-trans}
@@ -8,11 +8,11 @@ use lib.ListN.{length, take, getD}
 use lib.Seq.{take-suc, take-take}
 use Rattle.lists.specs.Lists.{sum, table, Within}
 use Rattle.wide.proofs.Step.{at-most}
-use Rattle.lists.proofs.Sums.{table-sum-bound, sum-append, take-le-sum}
+use Rattle.lists.proofs.Sums.{table-sum-bound, sum-append, part-le-sum}
 use Rattle.sharing.proofs.Sharing.{share-at, up-to-mono}
 use Rattle.modulation.specs.declared.Modulation.{Modulation}
 use Rattle.modulation.specs.Guarantee.{modulatedIn, guaranteeWith, guaranteeIn}
-use Rattle.modulation.specs.Totals.{Ordered, Consecutive, modulationOf, partOf, partBy, guaranteeOf}
+use Rattle.modulation.specs.Totals.{Ordered, Consecutive, modulationOf, partOf, guaranteeOf}
 use Rattle.modulation.specs.declared.ratio.Ratio.{Ratio}
 use Rattle.modulation.proofs.Digits.{scaled}
 
@@ -30,20 +30,17 @@ pub ordered : (profile : List ℕ) (k : ℕ) → 0 < sum profile → sum profile
 unfolding modulationOf
 ordered profile k some small =
     record {
-      lower = let a = take-le-sum (take k profile) (k - 1) in let b = ap sum (take-take (k - 1) k profile (omega arith)) in omega arith;
-      upper = take-le-sum profile k;
+      lower = subst (λ l. sum l ≤ sum (take k profile)) (take-take (k - 1) k profile (omega arith)) (part-le-sum (take k profile) 0 (k - 1));
+      upper = part-le-sum profile 0 k;
       some = some;
       small = small;
     }
 
 -- the part is no more than Q
-pub part-le : (m : Modulation) (q : ℕ) → m .upto ≤ m .whole → partOf m q ≤ q
-part-le m q h = let a = at-most q (m .upto) (m .whole) h in omega arith
+pub part-le : (q c w less : ℕ) → c ≤ w → q * c / w - less ≤ q
+part-le q c w less h = let a = at-most q c w h in omega arith
 
 module _ (before upto : Ratio) (q : ℕ) (c : Consecutive before upto) where
-  pub part-by-le : partBy before upto q ≤ q
-  part-by-le = let a = at-most q (upto .part) (upto .whole) (c .second .atMostOne) in omega arith
-
   -- what falls to the periods up to this one is no less than what falls to those before it
   pub running-mono : q * before .part / before .whole ≤ q * upto .part / upto .whole
   running-mono =
@@ -55,7 +52,7 @@ pub columns-le : (m : Modulation) (gs ls vs : List ℕ) → m .upto ≤ m .whole
     → (n : ℕ) → sum (table n (guaranteeOf m gs ls vs)) ≤ n * 10 ^ 12
 columns-le m gs ls vs h g l v =
     table-sum-bound (guaranteeOf m gs ls vs) (10 ^ 12)
-    (λ i. scaled (scaled (le-trans (part-le m (getD gs i 0) h) (g .at i)) (l .at i)) (v .at i))
+    (λ i. scaled (scaled (le-trans (part-le (getD gs i 0) (m .upto) (m .whole) _ h) (g .at i)) (l .at i)) (v .at i))
 
 -- ---- steps 1 and 2 as the paper has them, on columns
 module _ (profile : List ℕ) (k : ℕ) (low : 1 ≤ k) (high : k ≤ length profile) where
@@ -70,8 +67,9 @@ module _ (profile : List ℕ) (k : ℕ) (low : 1 ≤ k) (high : k ≤ length pro
     pub guarantees-are : table (length gs) (guaranteeIn profile k gs ls vs) ≡ table (length gs) (guaranteeOf (modulationOf profile k) gs ls vs)
     guarantees-are = λ i. table (length gs) (guaranteeWith (λ q. modulated-is q i) gs ls vs)
 
-    -- A is at most 10^12 for each plant
-    pub guarantees-le : 0 < sum profile → sum profile < 2 ^ 43 → Within gs (10 ^ 12) → Within ls 1000000 → Within vs 1000000
-        → sum (table (length gs) (guaranteeIn profile k gs ls vs)) ≤ length gs * 10 ^ 12
-    guarantees-le some small g l v =
-        rw guarantees-are (columns-le (modulationOf profile k) gs ls vs (ordered profile k some small .upper) g l v (length gs))
+    -- A of up to 512 plants is at most 5.12 × 10^14
+    pub guarantees-le : length gs ≤ 512 → 0 < sum profile → sum profile < 2 ^ 43 → Within gs (10 ^ 12) → Within ls 1000000 → Within vs 1000000
+        → sum (table (length gs) (guaranteeIn profile k gs ls vs)) ≤ 512 * 10 ^ 12
+    guarantees-le few some small g l v =
+        let a = columns-le (modulationOf profile k) gs ls vs (ordered profile k some small .upper) g l v (length gs) in
+        rw guarantees-are (omega arith)

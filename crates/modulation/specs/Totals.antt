@@ -1,6 +1,6 @@
 -- Steps 1 and 2 by running totals of the profile, as the inner functions state them. Assumes nothing.
 use mathlib.Core.Path.{_≡_}
-use Prim.Native.Nat.{ℕ, _-_, _*_, _/_, _^_, _≤_, _<_}
+use Prim.Native.Nat.{ℕ, _-_, _^_, _≤_, _<_}
 use mathlib.Core.List.{List}
 use lib.ListN.{take}
 use Rattle.lists.specs.Lists.{sum}
@@ -32,8 +32,9 @@ pub record Consecutive (before upto : Ratio) : Type 0 where
   pub same : before .whole ≡ upto .whole
   pub lower : before .part ≤ upto .part
 
+-- Step 1: the part of Q in this period, by the two ratios
 abbrev pub partBy : Ratio → Ratio → ℕ → ℕ
-partBy before upto q = q * upto .part / upto .whole - q * before .part / before .whole
+partBy before upto q = partBetween q (upto .whole) (before .part) (upto .part)
 
 -- ... and the guarantee after step 2
 abbrev pub guaranteeOf : Modulation → List ℕ → List ℕ → List ℕ → ℕ → ℕ

@@ -24,9 +24,9 @@ pub fn modulation_at(profile: &[u64], period: u64) -> Modulation
 {
     let k = period as usize;
     let last = k - 1;
-    let before = sharing::weights_total(&profile[..last]);
+    let before = lists::sum_of(&profile[..last]);
     let upto = before + profile[last];
-    let whole = upto + sharing::weights_total(&profile[k..]);
+    let whole = upto + lists::sum_of(&profile[k..]);
     Modulation {
         before,
         upto,
@@ -92,5 +92,5 @@ pub fn guarantees_of(
 {
     let m = modulation_at(profile, period);
     guarantees_into(m, guarantee, loss, availability, a);
-    sharing::weights_total(a)
+    lists::sum_of(a)
 }

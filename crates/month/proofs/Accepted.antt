@@ -1,6 +1,6 @@
 -- The number that a call answers, and what an accepted call tells: the month's stage, and that the hour of an accepted settle is sound. Assumes nothing.
 use mathlib.Core.Path.{_≡_, sym, _∙_}
-use mathlib.Core.Bool.{true, not}
+use mathlib.Core.Bool.{true}
 use Prim.Native.Nat.{ℕ}
 use mathlib.Core.List.{List, [], _∷_, map}
 use Rattle.lists.proofs.Questions.{asked, number-itself, outcome-part}
@@ -15,8 +15,8 @@ use Rattle.questions.specs.Questions.{rowsNumber}
 use Rattle.questions.proofs.Asked.{first-row}
 use Rattle.month.specs.declared.Balanced.{Balanced}
 use Rattle.month.specs.declared.Ended.{Ended}
-use Rattle.month.specs.Questions.{isOpen, isBlank, openNumber, settleNumber, closeNumber, balanceNumber}
-use Rattle.month.proofs.Asked.{settled}
+use Rattle.month.specs.Questions.{isOpen, openNumber, settleNumber, closeNumber, balanceNumber}
+use Rattle.month.proofs.Asked.{Inputs, settled}
 use Rattle.month.specs.Calls.{OpenEnd, openCall, SettleEnd, settleCall, balanceCall, closeCall}
 
 -- the number answered is that of the questions
@@ -48,24 +48,22 @@ rows-standing s n (p ∷ ps) e =
     let r = first-row s n p ps e in
     (r .placed, r .some, r .limited .submarket, rows-standing (p .submarket) (p .number) ps (r .others))
 
--- a settle call that is accepted: the month is open, and the hour is sound, whatever its period
+-- the hour of accepted inputs is sound, whatever its period
+pub inputs-sound : {m : Month} {plants : List Plant} {profile metered : List ℕ} {lent : ℕ} {l : Ledger} → Inputs m plants profile metered lent l
+    → (k : ℕ) → Sound (hourOf plants profile metered k)
+inputs-sound q k = sound-of _ _ _ k (rows-standing 0 0 _ (q .tables .rows)) (q .meter .meters ∙ sym (q .own .rows))
+
+-- a settle call that is accepted: the month is open, and the hour is sound
 pub record Settles (m : Month) (plants : List Plant) (profile metered : List ℕ) : Type 0 where
   pub isOpened : isOpen (m .stage) ≡ true
   pub sound : (k : ℕ) → Sound (hourOf plants profile metered k)
 
 pub settle-accepted : (m : Month) (plants : List Plant) (profile metered lent : List ℕ) (l : Ledger)
-    → settleNumber m plants profile metered lent l ≡ 0 → Settles m plants profile metered
+    → settleCall m plants profile metered lent l .answer .number ≡ 0 → Settles m plants profile metered
 settle-accepted m plants profile metered lent l e =
-    let q = settled m plants profile metered lent l e .0 in
-    record {
-      isOpened = q .own .isOpened;
-      sound = λ k. sound-of plants profile metered k (rows-standing 0 0 plants (q .tables .rows)) (q .meter .meters ∙ sym (q .own .rows));
-    }
+    let q = settled m plants profile metered lent l (sym (settle-number m plants profile metered lent l) ∙ e) .0 in
+    record { isOpened = q .own .isOpened; sound = inputs-sound q }
 
 pub close-accepted : (m : Month) → closeNumber m ≡ 0 → isOpen (m .stage) ≡ true
 unfolding closeNumber
 close-accepted m e = asked _ _ _ tt e .0
-
-pub balance-accepted : (m : Month) (l : Ledger) → balanceNumber m l ≡ 0 → not (isBlank (m .stage)) ≡ true
-unfolding balanceNumber
-balance-accepted m l e = asked _ _ _ tt e .0

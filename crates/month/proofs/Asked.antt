@@ -1,6 +1,6 @@
 -- What follows where questions are answered yes: from number 0 to a record of facts. Assumes nothing.
 use mathlib.Core.Path.{_≡_, refl, sym, _∙_}
-use mathlib.Core.Bool.{true}
+use mathlib.Core.Bool.{true, not}
 use mathlib.Core.List.{List, []}
 use Prim.Native.Nat.{ℕ, _*_, _^_, _≤_}
 use borrow.Author.Tests.{eqb-true}
@@ -13,7 +13,7 @@ use Rattle.hour.specs.Hour.{hourOf}
 use Rattle.ledger.specs.Ledger.{Ledger, inBounds}
 use Rattle.questions.proofs.Asked.{Sizes, sizes, Lengths, ledger, Tables, tables}
 use Rattle.month.specs.declared.Month.{Month}
-use Rattle.month.specs.Questions.{isOpen, openNumber, ownNumber, meteredNumber, inputsNumber, posted, boundsNumber, settleNumber, balanceNumber}
+use Rattle.month.specs.Questions.{isOpen, isBlank, openNumber, ownNumber, meteredNumber, inputsNumber, posted, boundsNumber, settleNumber, balanceNumber}
 
 -- open: 1 to 11
 pub opened : (m : Month) (plants : List Plant) (profile : List ℕ) (t : ℕ) (l : Ledger) → openNumber m plants profile t l ≡ 0
@@ -97,6 +97,7 @@ settled m plants profile ms lent l e =
 
 -- balance: 21, 2, 11 and 19
 pub record Balance (m : Month) (l : Ledger) : Type 0 where
+  pub notBlank : not (isBlank (m .stage)) ≡ true
   pub plants : m .plants ≤ 512
   pub lengths : Lengths (m .plants) l
   pub inside : inBounds l ≡ true
@@ -104,6 +105,7 @@ pub record Balance (m : Month) (l : Ledger) : Type 0 where
 pub balance : (m : Month) (l : Ledger) (k : ℕ) → k ≡ balanceNumber m l → k ≡ 0 → Balance m l
 unfolding balanceNumber
 balance m l k e z =
-    let q₂ = asked _ _ _ tt (asked _ _ _ tt (sym e ∙ z) .1) in
+    let q₂₁ = asked _ _ _ tt (sym e ∙ z) in
+    let q₂ = asked _ _ _ tt (q₂₁ .1) in
     let q₁₁ = ledger _ _ (parted _ [] (q₂ .1) .0) in
-    record { plants = limits _ _ _ (q₂ .0) .1; lengths = q₁₁ .0; inside = q₁₁ .1 }
+    record { notBlank = q₂₁ .0; plants = limits _ _ _ (q₂ .0) .1; lengths = q₁₁ .0; inside = q₁₁ .1 }

@@ -1,14 +1,13 @@
 -- What settle answers and leaves, from what its functions did: 12 to 18 and then 19 asked, the hour worked, the lists written. Assumes nothing.
 use mathlib.Core.Path.{_≡_, refl, ap, ap₂, _∙_}
 use mathlib.Core.List.{List, _++_}
-use Prim.Native.Nat.{ℕ, _+_}
+use Prim.Native.Nat.{ℕ}
 use native.Mathlib.Omega.{arith}
 use lib.IntN.{ℤ}
 use lib.ListN.{length, drop}
 use Rattle.lists.specs.Lists.{sum}
 use Rattle.lists.proofs.Parts.{whole-written}
 use Rattle.lists.proofs.Questions.{part-yes, part-no, part-last, refuses, accepts}
-use Rattle.transfer.specs.Calls.{noTable}
 use Rattle.hour.specs.declared.Worked.{Worked}
 use Rattle.hour.specs.Hour.{Hour, hourOf, guarantees, secondary, coverTable, secondaryTable, allotment}
 use Rattle.hour.specs.Work.{HourWorked}
@@ -18,25 +17,20 @@ use Rattle.hour.specs.declared.Plant.{Plant}
 use Rattle.month.specs.declared.Month.{Month}
 use Rattle.month.specs.declared.Settled.{Settled}
 use Rattle.month.specs.Questions.{posted, inputsNumber, boundsNumber, settleNumber}
-use Rattle.month.specs.Calls.{SettleEnd, settleCall}
+use Rattle.month.specs.Calls.{onward, SettleEnd, unsettled, settleCall}
 
 module _ (m : Month) (plants : List Plant) (profile metered lent : List ℕ) (l : Ledger) where
   abbrev hour : Hour
   hour = hourOf plants profile metered (m .due)
 
-  -- zeros beside a number
-  abbrev pub unsettled : ℕ → Settled
-  unsettled n =
-      record { number = n; month = m; secondary = 0; guarantees = 0; «cover_table» = record { rows = noTable }; «secondary_table» = record { rows = noTable } }
-
   abbrev pub Ends : Settled → List ℕ → Ledger → Type 0
   Ends r a x = _≡_ {A = SettleEnd} (record { answer = r; allotment = a; ledger = x }) (settleCall m plants profile metered lent l)
 
-  refused : (k : ℕ) → k ≡ settleNumber m plants profile metered lent l → (k ≡ 0 → ⊥) → (r : Settled) → r ≡ unsettled k → Ends r lent l
+  refused : (k : ℕ) → k ≡ settleNumber m plants profile metered lent l → (k ≡ 0 → ⊥) → (r : Settled) → r ≡ unsettled m k → Ends r lent l
   unfolding settleCall
   refused k e n r p = refuses k _ _ _ _ e n (ap (λ (x : Settled). record { answer = x; allotment = lent; ledger = l }) p)
 
-  pub refused-inputs : (k : ℕ) → k ≡ inputsNumber m plants profile metered (length lent) l → (k ≡ 0 → ⊥) → (r : Settled) → r ≡ unsettled k → Ends r lent l
+  pub refused-inputs : (k : ℕ) → k ≡ inputsNumber m plants profile metered (length lent) l → (k ≡ 0 → ⊥) → (r : Settled) → r ≡ unsettled m k → Ends r lent l
   unfolding settleNumber
   refused-inputs k e n r p = refused k (part-no _ _ k e n) n r p
 
@@ -50,7 +44,7 @@ module _ (m : Month) (plants : List Plant) (profile metered lent : List ℕ) (l 
     unfolding settleNumber
     number-is = part-yes _ _ _ k refl asked (part-last _ k (e ∙ ap (boundsNumber l) posted-is))
 
-    pub refused-bounds : (k ≡ 0 → ⊥) → (r : Settled) → r ≡ unsettled k → Ends r lent l
+    pub refused-bounds : (k ≡ 0 → ⊥) → (r : Settled) → r ≡ unsettled m k → Ends r lent l
     refused-bounds n r p = refused k number-is n r p
 
     -- the hour's answer, and the next period due
@@ -58,7 +52,7 @@ module _ (m : Month) (plants : List Plant) (profile metered lent : List ℕ) (l 
     answer z a t u =
         record {
           number = 0;
-          month = record { stage = m .stage; plants = m .plants; periods = m .periods; tariff = m .tariff; due = m .due + 1 };
+          month = onward m;
           secondary = z;
           guarantees = a;
           «cover_table» = record { rows = t };

@@ -3,6 +3,7 @@
 use mathlib.Core.Path.{_≡_, refl, sym, ap, _∙_, subst}
 use mathlib.Core.Bool.{Bool, true, false}
 use mathlib.Core.List.{List}
+use mathlib.Core.Logic.{by-cases}
 use Prim.Native.Nat.{ℕ, _<_}
 use native.Mathlib.Decide.{decLt}
 use native.Mathlib.Omega.{arith}
@@ -16,20 +17,25 @@ use Rattle.questions.specs.Questions.{sizesNumber}
 use Rattle.month.specs.declared.Month.{Month}
 use Rattle.month.specs.declared.Sized.{Sized}
 use Rattle.month.specs.Questions.{isOpen, openNumber, ownNumber, inputsNumber}
-use Rattle.month.specs.Calls.{OpenEnd, openCall, SettleEnd, settleCall}
+use Rattle.month.specs.Calls.{OpenEnd, openCall, SettleEnd, unsettled, settleCall}
 use Rattle.month.specs.Statement.{dueNumber, StatementEnd, statementCall, Sizing}
 use Rattle.month.proofs.Asked.{own}
-use Rattle.month.proofs.Ends.{unsettled, refused-inputs}
+use Rattle.month.proofs.Ends.{refused-inputs}
 use Rattle.month.proofs.StatementAsked.{statement-many, size-many}
 
 -- what holds of the table holds of the records, if it holds of any two tables of equally many rows, more than 512, or of none of them
 of-records : (P : List Plant → Type 0) → ((ps qs : List Plant) → length ps ≡ length qs → 512 < length qs → P ps → P qs)
     → (n : ℕ) (c : List ℕ) (plants : List Plant) → Held plants n c → P (rowsOf n c) → P plants
-of-records P many n c plants h p = go (decLt 512 n)
-  where
-    go : Dec (512 < n) → P plants
-    go (yes l) = many (rowsOf n c) plants (length-rows n c ∙ h .count) (omega (arith, h .count)) p
-    go (no g) = subst P (held-rows plants n c (omega arith) h) p
+of-records P many n c plants h p =
+    by-cases (decLt 512 n)
+    (λ l. many (rowsOf n c) plants (length-rows n c ∙ h .count) (omega (arith, h .count)) p)
+    (λ g. subst P (held-rows plants n c (omega arith) h) p)
+
+-- ... for a call that more than 512 rows end as their number alone says
+of-size : {X : Type 0} (call : List Plant → X) (end : ℕ → X) → ((ps : List Plant) → 512 < length ps → end (length ps) ≡ call ps)
+    → {x : X} (n : ℕ) (c : List ℕ) (plants : List Plant) → Held plants n c → x ≡ call (rowsOf n c) → x ≡ call plants
+of-size call end refused {x} =
+    of-records (λ (ps : List Plant). x ≡ call ps) (λ ps qs same h e. e ∙ (sym (refused ps (omega arith)) ∙ (ap end same ∙ refused qs h)))
 
 module _ (m : Month) (profile : List ℕ) (t : ℕ) (l : Ledger) where
   abbrev refused : ℕ → OpenEnd
@@ -60,31 +66,25 @@ module _ (m : Month) (profile : List ℕ) (t : ℕ) (l : Ledger) where
 module _ (m : Month) (profile metered lent : List ℕ) (l : Ledger) where
   -- with the number that its size alone gives
   settle-refused : (plants : List Plant) → 512 < length plants
-      → _≡_ {A = SettleEnd} (record { answer = unsettled m plants profile metered lent l (ownNumber m (length plants) (length profile)); allotment = lent; ledger = l }) (settleCall m plants profile metered lent l)
+      → _≡_ {A = SettleEnd} (record { answer = unsettled m (ownNumber m (length plants) (length profile)); allotment = lent; ledger = l }) (settleCall m plants profile metered lent l)
   unfolding inputsNumber
   settle-refused plants h =
       let k = ownNumber m (length plants) (length profile) in
       let some : k ≡ 0 → ⊥ = λ z. (let o = own m (length plants) (length profile) k refl z in omega (arith, o .rows, o .sizes .plants)) in
       refused-inputs m plants profile metered lent l k (part-no _ _ k refl some) some _ refl
 
-  settle-many : (ps qs : List Plant) → length ps ≡ length qs → 512 < length qs → settleCall m ps profile metered lent l ≡ settleCall m qs profile metered lent l
-  settle-many ps qs same h =
-      sym (settle-refused ps (omega arith))
-      ∙ (ap (λ (n : ℕ). record { answer = unsettled m qs profile metered lent l (ownNumber m n (length profile)); allotment = lent; ledger = l }) same ∙ settle-refused qs h)
-
   pub settle-records : {x : SettleEnd} (n : ℕ) (c : List ℕ) (plants : List Plant) → Held plants n c → x ≡ settleCall m (rowsOf n c) profile metered lent l
       → x ≡ settleCall m plants profile metered lent l
-  settle-records {x} = of-records (λ (ps : List Plant). x ≡ settleCall m ps profile metered lent l) (λ ps qs same h e. e ∙ settle-many ps qs same h)
+  settle-records =
+      of-size (λ ps. settleCall m ps profile metered lent l)
+      (λ n. record { answer = unsettled m (ownNumber m n (length profile)); allotment = lent; ledger = l }) settle-refused
 
 module _ (m : Month) (l : Ledger) where
-  stating-many : (lent : List ℕ) (ps qs : List Plant) → length ps ≡ length qs → 512 < length qs → statementCall m ps l lent ≡ statementCall m qs l lent
-  stating-many lent ps qs same h =
-      sym (statement-many m ps l (omega arith) lent)
-      ∙ (ap (λ (n : ℕ). record { answer = record { number = dueNumber m n; month = m; length = 0 }; bytes = lent }) same ∙ statement-many m qs l h lent)
-
   pub statement-records : {x : StatementEnd} (lent : List ℕ) (n : ℕ) (c : List ℕ) (plants : List Plant) → Held plants n c → x ≡ statementCall m (rowsOf n c) l lent
       → x ≡ statementCall m plants l lent
-  statement-records {x} lent = of-records (λ (ps : List Plant). x ≡ statementCall m ps l lent) (λ ps qs same h e. e ∙ stating-many lent ps qs same h)
+  statement-records lent =
+      of-size (λ ps. statementCall m ps l lent)
+      (λ n. record { answer = record { number = dueNumber m n; month = m; length = 0 }; bytes = lent }) (λ ps h. statement-many m ps l h lent)
 
   pub size-records : {r : Sized} (n : ℕ) (c : List ℕ) (plants : List Plant) → Held plants n c → Sizing m (rowsOf n c) l r → Sizing m plants l r
   size-records {r} = of-records (λ (ps : List Plant). Sizing m ps l r) (λ ps qs same h s. size-many m ps qs l same h s)

@@ -1,5 +1,6 @@
 -- The statement's questions answered yes: its figures are within limits, and what the two calls answer and leave. Assumes nothing.
 use mathlib.Core.Path.{_≡_, refl, sym, ap, ap₂, _∙_, subst}
+use mathlib.Core.Bool.{true, not}
 use mathlib.Core.List.{List, []}
 use Prim.Native.Nat.{ℕ, _+_, _-_, _≤_, _<_}
 use native.Mathlib.Omega.{arith}
@@ -19,11 +20,13 @@ use Rattle.statement.proofs.Text.{text-columns}
 use Rattle.statement.proofs.Limits.{callable, promised}
 use Rattle.month.specs.declared.Month.{Month}
 use Rattle.month.specs.declared.Sized.{Sized}
+use Rattle.month.specs.Questions.{isBlank}
 use Rattle.month.specs.Statement.{dueNumber, sizingNumber, statementNumber, statementOf, StatementEnd, statementCall, Sizing}
 use Rattle.questions.proofs.Asked.{ledger, rows-shown}
 
 -- 21, 2, 3, 13 and 14, with so many rows lent
 pub record Due (m : Month) (rows : ℕ) : Type 0 where
+  pub notBlank : not (isBlank (m .stage)) ≡ true
   pub plants : m .plants ≤ 512
   pub periods : m .periods ≤ 744
   pub lent : rows ≡ m .plants
@@ -33,11 +36,12 @@ pub record Due (m : Month) (rows : ℕ) : Type 0 where
 pub due : (m : Month) (rows k : ℕ) → k ≡ dueNumber m rows → k ≡ 0 → Due m rows
 unfolding dueNumber
 due m rows k e z =
-    let q₂ = asked _ _ _ tt (asked _ _ _ tt (sym e ∙ z) .1) in
+    let q₂₁ = asked _ _ _ tt (sym e ∙ z) in
+    let q₂ = asked _ _ _ tt (q₂₁ .1) in
     let q₃ = asked _ _ _ tt (q₂ .1) in
     let q₁₃ = asked _ _ _ tt (q₃ .1) in
     let d = limits _ _ _ (asked _ _ [] tt (q₁₃ .1) .0) in
-    record { plants = limits _ _ _ (q₂ .0) .1; periods = limits _ _ _ (q₃ .0) .1; lent = eqb-true _ _ (q₁₃ .0); begun = d .0; due = d .1 }
+    record { notBlank = q₂₁ .0; plants = limits _ _ _ (q₂ .0) .1; periods = limits _ _ _ (q₃ .0) .1; lent = eqb-true _ _ (q₁₃ .0); begun = d .0; due = d .1 }
 
 -- ... 5 to 8, 11 and 19
 pub record SizingAsked (m : Month) (plants : List Plant) (l : Ledger) : Type 0 where
@@ -91,16 +95,13 @@ module _ (settled n : ℕ) (c : List ℕ) (l : Ledger) (long : 2560 ≤ length c
   pub few : n ≤ 512
   few = omega (arith, inside .few, length-rows n c)
 
-  made : plantsOf (columnOf 0 n c) (columnOf 1 n c) (columnOf 2 n c) (columnOf 3 n c) (columnOf 4 n c) ≡ rowsOf n c
-  made = columns-rows n c long few
-
   module _ (ss ns : List ℕ) (e₀ : ss ≡ columnOf 0 n c) (e₁ : ns ≡ columnOf 1 n c) where
     pub writable : Stateable ss ns l × (statementLength settled (plantsOf ss ns [] [] []) l ≤ roomFor n)
     writable =
         let sized = length-column n c long few in
         let rows = ap length e₀ ∙ sized 0 (omega arith) in
         let same = ap length e₁ ∙ sized 1 (omega arith) ∙ sym rows in
-        let whole = (λ x. plantsOf (e₀ x) (e₁ x) (columnOf 2 n c) (columnOf 3 n c) (columnOf 4 n c)) ∙ made in
+        let whole = (λ x. plantsOf (e₀ x) (e₁ x) (columnOf 2 n c) (columnOf 3 n c) (columnOf 4 n c)) ∙ columns-rows n c long few in
         let w = callable settled ss ns _ _ _ l same (subst (λ (ps : List Plant). InLimits settled ps l) (sym whole) inside) in
         (w .0, omega (arith, w .1, ap roomFor rows))
 
@@ -109,7 +110,7 @@ module _ (settled n : ℕ) (c : List ℕ) (l : Ledger) (long : 2560 ≤ length c
     written {before} {r} {after} =
         subst (λ (t : List ℕ). Fills t before r after)
         ((λ x. statementText settled (plantsOf (e₀ x) (e₁ x) [] [] []) l) ∙ sym (text-columns settled (columnOf 0 n c) (columnOf 1 n c) _ _ _ l)
-        ∙ ap (λ (ps : List Plant). statementText settled ps l) made)
+        ∙ ap (λ (ps : List Plant). statementText settled ps l) (columns-rows n c long few))
 
 -- the statement written: what the call answers and leaves
 pub stated : (m : Month) (plants : List Plant) (l : Ledger) (text : List ℕ) (k : ℕ) → k ≡ statementNumber m plants l (length text) → k ≡ 0

@@ -1,11 +1,13 @@
 -- Settle's questions 12 to 18 answered yes: the hour can be worked, and its figures can be added to a ledger in bounds. Assumes nothing.
 use mathlib.Core.Path.{_≡_, refl, sym, ap, _∙_, subst}
 use mathlib.Core.Bool.{true}
-use mathlib.Core.List.{List, [], _∷_}
-use Prim.Native.Nat.{ℕ, zero, suc, _-_, _*_, _^_, _≤_, _<_, zero-le}
+use mathlib.Core.List.{List}
+use mathlib.Core.Logic.{by-cases}
+use Prim.Native.Nat.{ℕ, _-_, _*_, _^_, _≤_, _<_}
+use native.Mathlib.Decide.{decLt}
 use native.Mathlib.Omega.{arith}
 use lib.IntN.{ℤ, natAbs, subℕ}
-use lib.ListN.{length}
+use lib.ListN.{length, List·getD-eq-default}
 use Rattle.lists.specs.Lists.{Within}
 use Rattle.lists.specs.Columns.{_⊕_}
 use Rattle.lists.proofs.Columns.{_!_, length-rowwise}
@@ -13,49 +15,42 @@ use Rattle.lists.proofs.Questions.{at-most-at}
 use Rattle.lists.proofs.Sums.{at-le-sum}
 use Rattle.signed.proofs.View.{net-abs}
 use Rattle.lists.proofs.Rows.{by-fours}
-use Rattle.hour.specs.declared.Plant.{Plant}
 use Rattle.hour.specs.Hour.{Hour, hourOf, covered, rights, allotment, nets}
 use Rattle.hour.specs.Table.{none, plantsOf, Equal}
 use Rattle.hour.specs.Work.{Workable, HourWorked}
 use Rattle.hour.specs.declared.Worked.{Worked}
 use Rattle.hour.proofs.Hour.{Sound, figure-le, share-le, whole-sized}
 use Rattle.hour.proofs.Figures.{allotment-at, allotment-sized, at-nets}
-use Rattle.hour.proofs.Limits.{sound}
 use Rattle.hour.proofs.Table.{plant, plants-submarkets, plant-at}
 use Rattle.blocks.specs.Portion.{Standing}
 use Rattle.records.specs.Records.{columnOf, rowsOf}
 use Rattle.records.proofs.Figures.{length-rows, length-column, columns-rows}
 use Rattle.ledger.specs.Ledger.{Ledger, inBounds}
 use Rattle.ledger.specs.Posting.{Near, Postable}
+use Rattle.ledger.proofs.Bounds.{bounded}
 use Rattle.month.specs.declared.Month.{Month}
 use Rattle.questions.specs.Questions.{rowsNumber}
 use Rattle.questions.proofs.Asked.{Limited, rows-limited}
 use Rattle.month.specs.Questions.{inputsNumber}
 use Rattle.month.specs.Steps.{Ready, WorkableRows}
-use Rattle.month.proofs.Accepted.{rows-standing}
+use Rattle.month.proofs.Accepted.{rows-standing, inputs-sound}
 use Rattle.month.proofs.Asked.{Inputs, inputs}
 
-within-rows : (l : List ℕ) (b : ℕ) → ((i : ℕ) → i < length l → l ! i ≤ b) → (i : ℕ) → l ! i ≤ b
-within-rows [] b h i = zero-le
-within-rows (x ∷ xs) b h zero = h 0 (omega arith)
-within-rows (x ∷ xs) b h (suc i) = within-rows xs b (λ j k. h (suc j) (omega arith)) i
-
 -- the columns of accepted rows
-module _ (ss ns gs ls vs : List ℕ) (same : Equal (length ss) ns gs ls vs) (e : rowsNumber 0 0 (plantsOf ss ns gs ls vs) ≡ 0) where
+module _ (ss ns gs ls vs : List ℕ) (e : rowsNumber 0 0 (plantsOf ss ns gs ls vs) ≡ 0) where
   standing : Standing 0 ss
   standing = subst (λ l. Standing 0 l) (plants-submarkets ss ns gs ls vs) (rows-standing 0 0 (plantsOf ss ns gs ls vs) e)
 
   limited : (i : ℕ) → i < length ss → Limited (plant (ss ! i) (ns ! i) (gs ! i) (ls ! i) (vs ! i))
   limited i h = subst Limited (plant-at i ss ns gs ls vs none h) (rows-limited 0 0 (plantsOf ss ns gs ls vs) e i)
 
-  guarantees-within : Within gs (10 ^ 12)
-  guarantees-within = record { at = within-rows gs (10 ^ 12) (λ i h. limited i (omega (arith, same .guarantees)) .guarantee) }
-
-  losses-within : Within ls 1000000
-  losses-within = record { at = within-rows ls 1000000 (λ i h. limited i (omega (arith, same .losses)) .loss) }
-
-  availabilities-within : Within vs 1000000
-  availabilities-within = record { at = within-rows vs 1000000 (λ i h. limited i (omega (arith, same .availabilities)) .availability) }
+  -- a column within the limit that its figure has in each row
+  within : (xs : List ℕ) (b : ℕ) → length xs ≡ length ss → ((i : ℕ) → Limited (plant (ss ! i) (ns ! i) (gs ! i) (ls ! i) (vs ! i)) → xs ! i ≤ b) → Within xs b
+  within xs b same r =
+      record {
+        at = λ i.
+            by-cases (decLt i (length xs)) (λ h. r i (limited i (omega (arith, same)))) (λ h. omega (arith, List·getD-eq-default xs 0 {n = i} (omega arith)));
+      }
 
 -- arrays of 2,048 figures and 512 nets have room for the hour
 pub roomy : (m : Month) (n : ℕ) (c profile metered : List ℕ) (lent : ℕ) (l : Ledger) (k : ℕ) → k ≡ inputsNumber m (rowsOf n c) profile metered lent l → k ≡ 0
@@ -89,24 +84,21 @@ module _ {m : Month} {n : ℕ} {c profile metered lent : List ℕ} {l : Ledger} 
       let e = sym (sized 0 (omega arith)) in
       record { numbers = sized 1 (omega arith) ∙ e; guarantees = sized 2 (omega arith) ∙ e; losses = sized 3 (omega arith) ∙ e; availabilities = sized 4 (omega arith) ∙ e }
 
-  made : plantsOf (columnOf 0 n c) (columnOf 1 n c) (columnOf 2 n c) (columnOf 3 n c) (columnOf 4 n c) ≡ rowsOf n c
-  made = columns-rows n c (is .long) few
-
   workable-columns : Workable (columnOf 0 n c) (columnOf 1 n c) (columnOf 2 n c) (columnOf 3 n c) (columnOf 4 n c) profile (m .due) metered figures lentNets
   workable-columns =
       let r = rows in
       let w = sized 0 (omega arith) in
       let s = q .own .sizes in
       let t = q .meter in
-      let accepted = ap (rowsNumber 0 0) made ∙ q .tables .rows in
+      let accepted = ap (rowsNumber 0 0) (columns-rows n c (is .long) few) ∙ q .tables .rows in
       record {
         some = omega arith;
         rows = omega arith;
         equal = equal;
-        standing = standing _ _ _ _ _ equal accepted;
-        guarantees = guarantees-within _ _ _ _ _ equal accepted;
-        losses = losses-within _ _ _ _ _ equal accepted;
-        availabilities = availabilities-within _ _ _ _ _ equal accepted;
+        standing = standing _ _ _ _ _ accepted;
+        guarantees = within _ _ _ _ _ accepted _ _ (equal .guarantees) (λ i r. r .guarantee);
+        losses = within _ _ _ _ _ accepted _ _ (equal .losses) (λ i r. r .loss);
+        availabilities = within _ _ _ _ _ accepted _ _ (equal .availabilities) (λ i r. r .availability);
         hourly = record { at = at-most-at profile (2 * 10 ^ 9) (q .tables .figures) };
         periods = omega (arith, q .own .figures);
         whole = q .tables .some;
@@ -125,7 +117,7 @@ module _ {m : Month} {n : ℕ} {c profile metered lent : List ℕ} {l : Ledger} 
   h = hourOf (rowsOf n c) profile metered (m .due)
 
   ok : Sound h
-  ok = subst (λ (ps : List Plant). Sound (hourOf ps profile metered (m .due))) made (sound workable-columns)
+  ok = inputs-sound q (m .due)
 
   -- no figure of the hour is above the generation, no net above twice that
   allotment-within : Within (allotment h) (2 * 10 ^ 9)
@@ -160,14 +152,10 @@ module _ {m : Month} {n : ℕ} {c profile metered lent : List ℕ} {l : Ledger} 
   hour-postable inside =
       let r = rows in
       let t = q .tables .lengths in
-      record {
-        inside = inside;
-        figures = let a = allotment-sized h ok in omega (arith, t .allotted, length-rows n c);
-        rows = let a = nets-sized in omega (arith, t .accounts);
-        allotmentSmall = allotment-within;
-        netsSmall = nets-near;
-        tariffSmall = q .own .sizes .tariff;
-      }
+      let b = bounded l inside in (
+        record { same = let a = allotment-sized h ok in omega (arith, t .allotted, length-rows n c); ledger = b .allotted; hour = allotment-within },
+        record { rows = let a = nets-sized in omega (arith, t .accounts); ledger = b .accounts; hour = nets-near; low = q .own .sizes .tariff },
+      )
 
   -- the hour as it was worked
   pub postable : {answer : Worked} {worked : List ℕ} {workedNets : List ℤ} → HourWorked h answer worked workedNets → inBounds l ≡ true

@@ -22,6 +22,23 @@ use Rattle.month.specs.Questions.{openNumber, settleNumber, closeNumber,
 abbrev pub blank : Month
 blank = record { stage = Blank; plants = 0; periods = 0; tariff = 0; due = 0 }
 
+-- a month just opened: P, H and TEO, and 'period 1 due'
+abbrev pub openedMonth : ℕ → ℕ → ℕ → Month
+openedMonth p h tariff = record { stage = Open; plants = p; periods = h; tariff = tariff; due = 1 }
+
+-- the month after a settle, which 'moves the period on'
+abbrev pub onward : Month → Month
+onward m = record { stage = m .stage; plants = m .plants; periods = m .periods; tariff = m .tariff; due = m .due + 1 }
+
+-- the month after a close, which 'ends the month'
+abbrev pub closedMonth : Month → Month
+closedMonth m = record { stage = Closed; plants = m .plants; periods = m .periods; tariff = m .tariff; due = m .due }
+
+-- a refused settle's answer: zeros beside the number
+abbrev pub unsettled : Month → ℕ → Settled
+unsettled m n =
+    record { number = n; month = m; secondary = 0; guarantees = 0; «cover_table» = record { rows = noTable }; «secondary_table» = record { rows = noTable } }
+
 -- 'Open sets the ledger to zeros and period 1 due'
 pub record OpenEnd : Type 0 where
   pub answer : Ended
@@ -31,10 +48,7 @@ unfoldable pub openCall : Month → List Plant → List ℕ → ℕ → Ledger �
 openCall m plants profile tariff l =
     outcome (openNumber m plants profile tariff l)
     (record {
-      answer = record {
-        number = 0;
-        month = record { stage = Open; plants = length plants; periods = length profile; tariff = tariff; due = 1 };
-      };
+      answer = record { number = 0; month = openedMonth (length plants) (length profile) tariff };
       ledger = zeros (length plants);
     })
     (λ n. record { answer = record { number = n; month = m }; ledger = l })
@@ -52,7 +66,7 @@ settleCall m plants profile metered lent l =
     record {
       answer = record {
         number = 0;
-        month = record { stage = m .stage; plants = m .plants; periods = m .periods; tariff = m .tariff; due = m .due + 1 };
+        month = onward m;
         secondary = secondary h;
         guarantees = sum (guarantees h);
         «cover_table» = record { rows = coverTable h };
@@ -61,18 +75,7 @@ settleCall m plants profile metered lent l =
       allotment = allotment h;
       ledger = posted l h (m .tariff);
     })
-    (λ n. record {
-      answer = record {
-        number = n;
-        month = m;
-        secondary = 0;
-        guarantees = 0;
-        «cover_table» = record { rows = noTable };
-        «secondary_table» = record { rows = noTable };
-      };
-      allotment = lent;
-      ledger = l;
-    })
+    (λ n. record { answer = unsettled m n; allotment = lent; ledger = l })
 
 -- 'Balance answers the four column sums, the sum of nets and the sum of money'
 unfoldable pub balanceCall : Month → Ledger → Balanced
@@ -91,8 +94,5 @@ balanceCall m l =
 unfoldable pub closeCall : Month → Ended
 closeCall m =
     outcome (closeNumber m)
-    (record {
-      number = 0;
-      month = record { stage = Closed; plants = m .plants; periods = m .periods; tariff = m .tariff; due = m .due };
-    })
+    (record { number = 0; month = closedMonth m })
     (λ n. record { number = n; month = m })

@@ -27,7 +27,7 @@ isBlank Blank = true
 isBlank Open = false
 isBlank Closed = false
 
--- Open
+-- Open: 1, then 2 to 4 for the rows, the profile figures and the TEO lent, then 5 to 11
 unfoldable pub openNumber : Month → List Plant → List ℕ → ℕ → Ledger → ℕ
 openNumber m plants profile tariff l =
     firstNo

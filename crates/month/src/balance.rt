@@ -2,6 +2,8 @@
 use crate::Balanced;
 use crate::Month;
 use crate::stages::is_blank;
+use ledger::MONEY;
+use ledger::NET;
 use questions::ledger_number;
 use questions::plants_in_limits;
 ghost use mathlib.Core.Path.{_≡_};
@@ -39,8 +41,8 @@ impl Month {
             };
         }
         let columns = ledger::column_sums(allotted);
-        let net = ledger::net_sum(accounts);
-        let money = ledger::money_sum(accounts);
+        let net = ledger::account_sum(NET, accounts);
+        let money = ledger::account_sum(MONEY, accounts);
         Balanced {
             number: 0,
             month: self,

@@ -6,7 +6,7 @@ use crate::stages::is_open;
 use questions::periods_in_limits;
 ghost use mathlib.Core.Path.{_≡_};
 ghost use Rattle.month.specs.Questions.{closeNumber};
-ghost use Rattle.month.specs.Calls.{closeCall};
+ghost use Rattle.month.specs.Calls.{closedMonth, closeCall};
 
 // 12, 3 for the month's own H, and 20.
 pub fn close_number(month: Month) -> u64
@@ -26,12 +26,12 @@ pub fn close_number(month: Month) -> u64
 }
 
 impl Month {
-    // The month at another stage.
-    fn at_stage(self, stage: Stage) -> Month
-        ensures { λ r. ⌜ r ≡ record { stage = stage; plants = self .plants; periods = self .periods; tariff = self .tariff; due = self .due } ⌝ }
+    // The month, closed.
+    fn closed(self) -> Month
+        ensures { λ r. ⌜ r ≡ closedMonth self ⌝ }
     {
         Month {
-            stage,
+            stage: Stage::Closed,
             plants: self.plants,
             periods: self.periods,
             tariff: self.tariff,
@@ -50,7 +50,7 @@ impl Month {
                 month: self,
             };
         }
-        self = self.at_stage(Stage::Closed);
+        self = self.closed();
         Ended {
             number: 0,
             month: self,

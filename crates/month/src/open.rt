@@ -6,6 +6,7 @@ use crate::stages::is_open;
 use hour::Plant;
 use questions::sizes_number;
 use questions::tables_number;
+use records::COLUMNS;
 ghost use mathlib.Core.Path.{_≡_};
 ghost use Prim.Native.Nat.{_≤_};
 ghost use lib.ListN.{length};
@@ -79,7 +80,7 @@ impl Month {
     pub fn open_table(
         self,
         n: usize,
-        c: [u64; 2560],
+        c: [u64; COLUMNS],
         profile: &[u64],
         tariff: u64,
         allotted: &mut [u64],

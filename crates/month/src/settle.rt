@@ -4,25 +4,26 @@ use crate::Settled;
 use crate::stages::is_open;
 use hour::Plant;
 use hour::Worked;
+use ledger::ALLOTTED;
 use lists::MOST;
+use lists::PLANTS;
 use lists::in_range;
 use questions::sizes_number;
 use questions::tables_number;
-use questions::total;
+use records::COLUMNS;
 ghost use mathlib.Core.Path.{_≡_};
 ghost use mathlib.Core.Bool.{true};
 ghost use mathlib.Core.List.{List};
-ghost use Prim.Native.Nat.{_+_, _≤_};
+ghost use Prim.Native.Nat.{_≤_};
 ghost use lib.ListN.{length};
 ghost use Rattle.hour.specs.declared.Plant.{Plant};
 ghost use Rattle.hour.specs.Hour.{hourOf};
 ghost use Rattle.hour.specs.Work.{HourWorked};
 ghost use Rattle.records.specs.Records.{rowsOf, Held};
-ghost use Rattle.transfer.specs.Calls.{noTable};
 ghost use Rattle.ledger.specs.Ledger.{inBounds, added};
 ghost use Rattle.ledger.specs.Posting.{Postable, hourFigures};
 ghost use Rattle.month.specs.Questions.{ownNumber, meteredNumber, inputsNumber, boundsNumber};
-ghost use Rattle.month.specs.Calls.{SettleEnd, settleCall};
+ghost use Rattle.month.specs.Calls.{onward, SettleEnd, unsettled, settleCall};
 ghost use Rattle.month.specs.Steps.{Ready, WorkableRows};
 
 // 12, then 2 to 4 for the month's own P, H and TEO, and 13 of the rows and the profile figures lent.
@@ -61,7 +62,7 @@ pub fn metered_number(month: Month, profile: &[u64], metered: &[u64], lent: u64)
         return 16;
     }
     let at = month.due as usize - 1;
-    if total(metered) != profile[at] {
+    if lists::sum_of(metered) != profile[at] {
         return 17;
     }
     if lent != 4 * month.plants {
@@ -150,7 +151,7 @@ fn work_columns(
 impl Month {
     // A refused settle: zeros beside the number, and the month as it came.
     fn unsettled(self, number: u64) -> Settled
-        ensures { λ r. ⌜ r ≡ record { number = number; month = self; secondary = 0; guarantees = 0; «cover_table» = record { rows = noTable }; «secondary_table» = record { rows = noTable } } ⌝ }
+        ensures { λ r. ⌜ r ≡ unsettled self number ⌝ }
     {
         let cover_table = transfer::table_of([[0u64; 4]; 4]);
         let secondary_table = transfer::table_of([[0u64; 4]; 4]);
@@ -167,7 +168,7 @@ impl Month {
     // An accepted settle: the hour's answer, and the next period due.
     fn settled(mut self, hour: Worked) -> Settled
         requires { ⌜ self .due ≤ 744 ⌝ }
-        ensures { λ r. ⌜ r ≡ record { number = 0; month = record { stage = self .stage; plants = self .plants; periods = self .periods; tariff = self .tariff; due = self .due + 1 }; secondary = hour .secondary; guarantees = hour .guarantees; «cover_table» = hour .«cover_table»; «secondary_table» = hour .«secondary_table» } ⌝ }
+        ensures { λ r. ⌜ r ≡ record { number = 0; month = onward self; secondary = hour .secondary; guarantees = hour .guarantees; «cover_table» = hour .«cover_table»; «secondary_table» = hour .«secondary_table» } ⌝ }
     {
         self.due += 1;
         let cover_table = hour.cover_table;
@@ -228,8 +229,8 @@ impl Month {
         if no != 0 {
             return self.unsettled(no);
         }
-        let mut figures = [0u64; 2048];
-        let mut nets = [0i64; 512];
+        let mut figures = [0u64; ALLOTTED * PLANTS];
+        let mut nets = [0i64; PLANTS];
         self.settle_hour(
             n,
             columns,
@@ -247,7 +248,7 @@ impl Month {
     pub fn settle_table(
         self,
         n: usize,
-        c: [u64; 2560],
+        c: [u64; COLUMNS],
         profile: &[u64],
         metered: &[u64],
         allotment: &mut [u64],

@@ -9,6 +9,7 @@ use questions::ledger_number;
 use questions::periods_in_limits;
 use questions::plants_in_limits;
 use questions::rows_number;
+use records::COLUMNS;
 use statement::writing::write_statement;
 ghost use mathlib.Core.Path.{_≡_};
 ghost use mathlib.Core.List.{List};
@@ -175,7 +176,7 @@ impl Month {
     pub fn statement_table(
         self,
         n: usize,
-        c: [u64; 2560],
+        c: [u64; COLUMNS],
         allotted: &[u64],
         accounts: &[i64],
         bytes: &mut [u8],
@@ -186,7 +187,13 @@ impl Month {
     }
 
     // The size on the columns of n records.
-    pub fn size_table(self, n: usize, c: [u64; 2560], allotted: &[u64], accounts: &[i64]) -> Sized
+    pub fn size_table(
+        self,
+        n: usize,
+        c: [u64; COLUMNS],
+        allotted: &[u64],
+        accounts: &[i64],
+    ) -> Sized
         ensures { λ r. ⌜ ((plants : List Plant) → Held plants n c → Sizing self plants (record { allotted = now (allotted .entry); accounts = now (accounts .entry) }) r) ⌝ }
     {
         self.size_columns(n, &c[..], allotted, accounts)

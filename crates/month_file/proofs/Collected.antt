@@ -2,12 +2,13 @@
 use mathlib.Core.Path.{_≡_, refl, sym, ap, _∙_}
 use mathlib.Core.Bool.{false}
 use mathlib.Core.List.{List, [], _∷_, _++_}
-use Prim.Native.Nat.{ℕ, suc, _+_, _-_, _≤_, _<_}
+use Prim.Native.Nat.{ℕ, _+_, _-_, _≤_, _<_}
 use native.Mathlib.Numerals.{add-one}
 use native.Mathlib.Omega.{arith}
 use borrow.Author.Tests.{ne-eqb, lt-ltb}
 use lib.ListN.{length, take, drop, set, getD, length-set}
-use lib.Seq.{drop-cons, take-suc-set, length-take-le}
+use lib.Seq.{take-suc-set, length-take-le}
+use Rattle.lists.proofs.Loops.{rest-more}
 use Rattle.file_lines.specs.File.{Progress}
 use Rattle.file_lines.specs.State.{isRefused}
 use Rattle.month_file.specs.Bytes.{Reading, longer, byte, fed}
@@ -15,6 +16,11 @@ use Rattle.month_file.specs.Machine.{Collected}
 
 abbrev reading : List ℕ → ℕ → Progress → Reading
 reading line count p = record { line = line; count = count; progress = p }
+
+-- the byte at a place, and those behind it
+pub fed-at : (part : List ℕ) (at : ℕ) (r : Reading) {q : Reading} → at < length part → byte r (getD part at 0) ≡ q → fed r (drop at part) ≡ fed q (drop (at + 1) part)
+unfolding fed
+fed-at part at r h e = rest-more (fed r) part at 0 h ∙ ap (λ (q : Reading). fed q (drop (at + 1) part)) e
 
 -- a byte that goes to the line
 pub byte-more : (line : List ℕ) (count : ℕ) (p : Progress) (b : ℕ) → isRefused p ≡ false → (b ≡ 10 → ⊥) → length line < 8192
@@ -41,12 +47,9 @@ module _ {part : List ℕ} {from : ℕ} {old : List ℕ} {at : ℕ} where
   module _ {i n : ℕ} {new : List ℕ} (c : Collecting part from old at i n new) where
     one-more : i < length part → (getD part i 0 ≡ 10 → ⊥) → n < length new → length (take n new) < 8192 → (count : ℕ) (p : Progress) → isRefused p ≡ false
         → fed (reading (take n new) count p) (drop i part) ≡ fed (reading (take (n + 1) (set new n (getD part i 0))) count p) (drop (i + 1) part)
-    unfolding fed
     one-more h b fits short count p e =
-        ap (fed (reading (take n new) count p)) (drop-cons part i 0 h)
-        ∙ ap (λ (q : Reading). fed q (drop (suc i) part))
-        (byte-more (take n new) count p (getD part i 0) e b short ∙ ap (λ (l : List ℕ). reading l count p) (sym (take-suc-set new n (getD part i 0) fits)))
-        ∙ rw (add-one n, add-one i)
+        let front : take (n + 1) (set new n (getD part i 0)) ≡ take n new ++ (getD part i 0 ∷ []) = rw add-one (take-suc-set new n (getD part i 0) fits) in
+        fed-at part i (reading (take n new) count p) h (byte-more (take n new) count p (getD part i 0) e b short ∙ ap (λ (l : List ℕ). reading l count p) (sym front))
 
     pub collecting-more : i < length part → (getD part i 0 ≡ 10 → ⊥) → (n ≡ 8192 → ⊥) → Collecting part from old at (i + 1) (n + 1) (set new n (getD part i 0))
     collecting-more h b f =

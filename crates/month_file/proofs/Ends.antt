@@ -22,8 +22,8 @@ use Rattle.month.specs.declared.Ended as month
 use Rattle.questions.proofs.Asked.{rows-shown}
 use Rattle.month.specs.Questions.{closeNumber}
 use Rattle.month.specs.Calls.{closeCall}
+use Rattle.month.specs.Statement.{statementOf}
 use Rattle.month.proofs.Accepted.{close-number}
-use Rattle.statement.specs.Statement.{statementText}
 use Rattle.statement.specs.Laws.{InLimits}
 use Rattle.statement.specs.Lengths.{fieldsLength, leadingLength}
 use Rattle.statement.specs.Writing.{leading, Fills}
@@ -38,6 +38,7 @@ use Rattle.month_file.specs.Machine.{readingOf, unendedNumber, Finishabl
 use Rattle.file_lines.proofs.Following.{stays, reads}
 use Rattle.month_file.proofs.Bytes.{unfinished-some}
 use Rattle.file_lines.proofs.Gathered.{gathers-is}
+use Rattle.file_lines.proofs.Opened.{ledger-long}
 use Rattle.file_lines.proofs.Taken.{by-stage, begins-is, settles-is, unrefused, line-number}
 use Rattle.month_file.proofs.Parts.{refused-progress}
 
@@ -137,7 +138,7 @@ module _ (f : MonthFile) (k : Kept) (w : Finishable f k) (end : month.Ended) (e 
   g : Settling f k
   g = w .valid .settling (w .settling)
 
-  prints : printed (f .count) (progressOf f k) ≡ outcome (end .number) (statementText (end .month .due - 1) rows ledger) (refusal (f .count))
+  prints : printed (f .count) (progressOf f k) ≡ outcome (end .number) (statementOf (end .month) rows ledger) (refusal (f .count))
   unfolding printed
   prints = ap (printed (f .count)) (settles-is f k (w .settling)) ∙ rw (eq-eqb (m .due) (m .periods + 1) (w .last), ← e)
 
@@ -154,29 +155,25 @@ module _ (f : MonthFile) (k : Kept) (w : Finishable f k) (end : month.Ended) (e 
   month-due : end .month .due ≡ m .due
   month-due = ap (λ (r : month.Ended). r .month .due) e ∙ close-due m
 
-  abbrev settled : ℕ
-  settled = end .month .due - 1
-
   pub some-due : 1 ≤ end .month .due
   some-due = omega (arith, month-due, w .last)
 
-  p-rows : length rows ≡ m .plants
-  p-rows = length-rows (m .plants) (k .columns)
-
-  pub in-limits : InLimits settled rows ledger
+  pub in-limits : InLimits (end .month .due - 1) rows ledger
   unfolding ledgerOf
   in-limits =
+      let long = ledger-long k (w .valid .lent) (m .plants) (g .counted .plants) in
+      let same = length-rows (m .plants) (k .columns) in
       record {
-        few = omega (arith, p-rows, g .counted .plants);
+        few = omega (arith, same, g .counted .plants);
         periods = omega (arith, month-due, w .last, g .counted .periods);
         submarkets = rows-shown rows (g .rows) .0;
         numbers = rows-shown rows (g .rows) .1;
-        figures = length-take-le (4 * m .plants) (k .allotted) (omega (arith, g .counted .plants, w .valid .lent .allotted)) ∙ ap (λ (n : ℕ). 4 * n) (sym p-rows);
-        nets = length-take-le (2 * m .plants) (k .accounts) (omega (arith, g .counted .plants, w .valid .lent .accounts)) ∙ ap (λ (n : ℕ). 2 * n) (sym p-rows);
+        figures = long .allotted ∙ ap (λ (n : ℕ). 4 * n) (sym same);
+        nets = long .accounts ∙ ap (λ (n : ℕ). 2 * n) (sym same);
         bounded = g .bounded;
       }
 
-  pub closing-stated : {before : List ℕ} {r : ℕ} {after : List ℕ} → Fills (statementText settled rows ledger) before r after
+  pub closing-stated : {before : List ℕ} {r : ℕ} {after : List ℕ} → Fills (statementOf (end .month) rows ledger) before r after
       → Fills (printed (f .count) (progressOf f k)) before r after
   closing-stated {before} {r} {after} =
       subst (λ (t : List ℕ). Fills t before r after) (sym (accepted (end .number) _ (refusal (f .count)) z) ∙ sym prints)

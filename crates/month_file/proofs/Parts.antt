@@ -3,31 +3,26 @@ use mathlib.Core.Path.{_≡_, refl, sym, ap, _∙_}
 use mathlib.Core.Bool.{Bool, true, false, false≢true}
 use mathlib.Core.List.{List, [], _∷_}
 use Prim.Native.Nat.{ℕ, _+_, _-_, _≤_, _<_}
-use native.Mathlib.Numerals.{add-one}
 use native.Mathlib.Omega.{arith}
 use borrow.Author.Tests.{eq-eqb, ne-eqb, le-ltb}
 use lib.ListN.{length, take, drop, getD, drop-of-length-le}
-use lib.Seq.{drop-cons, length-take-le}
+use lib.Seq.{length-take-le}
 use Rattle.file_lines.specs.declared.MonthFile.{MonthFile}
 use Rattle.file_lines.specs.File as file
 use Rattle.file_lines.specs.File.{whole, read}
-use Rattle.file_lines.specs.State.{isRefused, Kept, progressOf, Valid, Moved, atStage, atRefusal}
+use Rattle.file_lines.specs.State.{isRefused, Kept, progressOf, Valid, Moved, fileWith, atStage, atRefusal}
 use Rattle.month_file.specs.Bytes.{Reading, ended, longer, byte, fed}
 use Rattle.month_file.specs.Machine.{readingOf, Collected, Stepped, Fed}
 use Rattle.file_lines.proofs.Following.{reads}
 use Rattle.file_lines.proofs.Moves.{refused-moved}
 use Rattle.file_lines.proofs.Taken.{unrefused}
+use Rattle.month_file.proofs.Collected.{fed-at}
 
 -- after a refusal no byte matters
 fed-refused : (bs : List ℕ) (r : Reading) → isRefused (r .progress) ≡ true → fed r bs ≡ r
 unfolding fed byte
 fed-refused [] r e = refl
 fed-refused (b ∷ bs) r e = rw e (fed-refused bs r e)
-
--- the byte at a place, and those behind it
-fed-at : (part : List ℕ) (at : ℕ) (r : Reading) → at < length part → fed r (drop at part) ≡ fed (byte r (getD part at 0)) (drop (at + 1) part)
-unfolding fed
-fed-at part at r h = rw (drop-cons part at 0 h, add-one at)
 
 -- a byte 10; a byte for which the line has no room
 byte-ends : (r : Reading) (b : ℕ) → isRefused (r .progress) ≡ false → b ≡ 10 → byte r b ≡ ended r
@@ -43,19 +38,7 @@ byte-full r b e h l = rw (e, ne-eqb b 10 h, le-ltb (length (r .line)) 8192 l)
 
 -- a state with another length
 abbrev pub lengthened : MonthFile → ℕ → MonthFile
-lengthened f n =
-    record {
-      stage = f .stage;
-      length = n;
-      count = f .count;
-      plants = f .plants;
-      periods = f .periods;
-      tariff = f .tariff;
-      rows = f .rows;
-      figures = f .figures;
-      month = f .month;
-      number = f .number;
-    }
+lengthened f n = fileWith f (f .stage) n (f .count) (f .month) (f .number)
 
 valid-longer : (f : MonthFile) (k : Kept) (n : ℕ) → Valid f k → n ≤ 8192 → Valid (lengthened f n) k
 valid-longer f k n v h =
@@ -71,6 +54,12 @@ pub refused-progress : (f : MonthFile) (k : Kept) → 2 < f .stage → progressO
 unfolding progressOf
 refused-progress f k s = rw (ne-eqb (f .stage) 0 (λ e. omega arith), ne-eqb (f .stage) 1 (λ e. omega arith), ne-eqb (f .stage) 2 (λ e. omega arith))
 
+-- bytes that end no line
+stepped : {f : MonthFile} {k : Kept} {line part : List ℕ} {from : ℕ} {r : MonthFile} {after : List ℕ} {to : ℕ} → from < to → to ≤ length part → Valid r k
+    → fed (readingOf f k line) (drop from part) ≡ fed (readingOf r k after) (drop to part) → Stepped f k line part from r after to false
+stepped low high v e =
+    record { low = low; high = high; valid = v; goes = λ _. e; ends = λ t. absurd (false≢true t); due = λ t. absurd (false≢true t) }
+
 module _ (f : MonthFile) (k : Kept) (v : Valid f k) (line part : List ℕ) (from : ℕ) (h : from < length part) where
   is-refused : 2 < f .stage → isRefused (readingOf f k line .progress) ≡ true
   unfolding readingOf isRefused
@@ -78,15 +67,7 @@ module _ (f : MonthFile) (k : Kept) (v : Valid f k) (line part : List ℕ) (from
 
   -- after a refusal
   pub skipped : 2 < f .stage → Stepped f k line part from f line (length part) false
-  skipped s =
-      record {
-        low = h;
-        high = omega arith;
-        valid = v;
-        goes = λ _. fed-refused (drop from part) _ (is-refused s) ∙ sym (fed-refused (drop (length part) part) _ (is-refused s));
-        ends = λ e. absurd (false≢true e);
-        due = λ e. absurd (false≢true e);
-      }
+  skipped s = stepped h (omega arith) v (fed-refused (drop from part) _ (is-refused s) ∙ sym (fed-refused (drop (length part) part) _ (is-refused s)))
 
   module _ (due : f .stage ≤ 2) (new : List ℕ) (end : ℕ) (c : Collected part from line (f .length) end new) where
     abbrev more : MonthFile
@@ -104,15 +85,7 @@ module _ (f : MonthFile) (k : Kept) (v : Valid f k) (line part : List ℕ) (from
     collected-same = c .same (f .count) (progressOf f k) (unrefused f k v due)
 
     pub to-the-end : end ≡ length part → Stepped f k line part from more new end false
-    to-the-end e =
-        record {
-          low = omega arith;
-          high = c .high;
-          valid = valid-more;
-          goes = λ _. collected-same;
-          ends = λ b. absurd (false≢true b);
-          due = λ b. absurd (false≢true b);
-        }
+    to-the-end e = stepped (omega arith) (c .high) valid-more collected-same
 
     module _ (left : end ≡ length part → ⊥) where
       inside : end < length part
@@ -120,7 +93,7 @@ module _ (f : MonthFile) (k : Kept) (v : Valid f k) (line part : List ℕ) (from
 
       -- ... and a byte more
       one-more : (q : Reading) → byte (readingOf more k new) (getD part end 0) ≡ q → fed (readingOf f k line) (drop from part) ≡ fed q (drop (end + 1) part)
-      one-more q e = collected-same ∙ fed-at part end _ inside ∙ ap (λ (r : Reading). fed r (drop (end + 1) part)) e
+      one-more q e = collected-same ∙ fed-at part end _ inside e
 
       full : 8192 ≤ length new → (getD part end 0 ≡ 10 → ⊥) → 8192 ≤ length (readingOf more k new .line)
       unfolding readingOf
@@ -129,14 +102,8 @@ module _ (f : MonthFile) (k : Kept) (v : Valid f k) (line part : List ℕ) (from
       pub no-room : 8192 ≤ length new → (getD part end 0 ≡ 10 → ⊥) → (r : MonthFile) → r ≡ atRefusal more 26 → Stepped f k line part from r new (end + 1) false
       unfolding readingOf atRefusal atStage progressOf
       no-room l b r e =
-          record {
-            low = omega (arith, c .low);
-            high = omega (arith, inside);
-            valid = rw e (refused-moved more k (v .lent) 26 .valid);
-            goes = λ _. one-more _ (byte-full _ (getD part end 0) going b (full l b) ∙ rw e);
-            ends = λ t. absurd (false≢true t);
-            due = λ t. absurd (false≢true t);
-          }
+          stepped (omega (arith, c .low)) (omega (arith, inside)) (rw e (refused-moved more k (v .lent) 26 .valid))
+          (one-more _ (byte-full _ (getD part end 0) going b (full l b) ∙ rw e))
 
       pub line-ends : getD part end 0 ≡ 10 → Stepped f k line part from more new (end + 1) true
       line-ends b =

@@ -48,6 +48,7 @@ start = record { line = []; count = 0; progress = begins }
 unfoldable pub finished : Reading → List ℕ
 finished r = following (r .count) (r .progress) (unfinished (r .line))
 
+-- byte by byte, or in parts cut anywhere, the file's text is printed
 pub record Promised : Type 0 where
   -- the bytes one by one give the file's text
   pub same : (bytes : List ℕ) → finished (fed start bytes) ≡ settledFile bytes

@@ -14,12 +14,17 @@ pub record Place : Type 0 where
   pub lists : Kept
   pub line : List ℕ
 
+-- a place, by its state, lists and line
+abbrev pub place : MonthFile → Kept → List ℕ → Place
+place f k line = record { file = f; lists = k; line = line }
+
 -- parts fed one after another, each as `feed` promises
 pub data Feeds : Place → List (List ℕ) → Place → Type 0 where
   none : {a : Place} → Feeds a [] a
   more : {a b c : Place} {part : List ℕ} {parts : List (List ℕ)} → Fed (a .file) (a .lists) (a .line) part (b .file) (b .lists) (b .line) → Feeds b parts c
       → Feeds a (part ∷ parts) c
 
+-- from the state before the first byte on, after any parts
 pub record Promised : Type 0 where
   -- the state before the first byte is fresh, with any lists that are long enough
   pub fresh : (k : Kept) (line : List ℕ) → Lent k → Fresh atStart k line

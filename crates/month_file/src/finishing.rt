@@ -3,6 +3,7 @@ use figures::writing::write_byte;
 use file_lines::MonthFile;
 use ledger::ACCOUNTS;
 use ledger::ALLOTTED;
+use lines::fields::FIELDS;
 use lines::reading::read_line;
 use month::stating::write_rows;
 use statement::writing::write_leading;
@@ -31,7 +32,7 @@ fn unended(file: MonthFile, line: &[u8]) -> MonthFile
     requires { ⌜ file .count < 10000 ⌝ }
     ensures { λ r. ⌜ r ≡ atRefusal file (unendedNumber (now (line .entry))) ⌝ }
 {
-    let mut figures = [0u64; 513];
+    let mut figures = [0u64; FIELDS];
     let answer = read_line(line, &mut figures);
     if answer.number != 0 {
         return file.refused(answer.number);

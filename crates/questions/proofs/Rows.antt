@@ -1,16 +1,14 @@
 -- Questions 5 to 8 down the rows that the columns hold: the rows not yet passed decide. Assumes nothing.
 use mathlib.Core.Path.{_≡_, refl, sym, _∙_, ap}
 use mathlib.Core.List.{List, _∷_}
-use Prim.Native.Nat.{ℕ, suc, _+_, _≤_, _<_, zero-le}
-use native.Mathlib.Numerals.{add-one}
+use Prim.Native.Nat.{ℕ, _+_, _≤_, _<_, zero-le}
 use native.Mathlib.Omega.{arith}
-use lib.ListN.{length, drop, getD, drop-of-length-le}
-use lib.Seq.{drop-cons}
+use lib.ListN.{drop, drop-of-length-le}
 use borrow.Author.Needs.{needs}
 use Rattle.lists.specs.Questions.{_then_}
+use Rattle.lists.proofs.Loops.{drop-more}
 use Rattle.lists.proofs.Questions.{then-no, then-yes}
 use Rattle.hour.specs.declared.Plant.{Plant}
-use Rattle.hour.proofs.Table.{plant}
 use Rattle.hour.specs.Table.{none}
 use Rattle.records.specs.Records.{rowAt, rowsOf}
 use Rattle.records.proofs.Figures.{length-rows, row-at}
@@ -21,17 +19,12 @@ pub record Descending (rows : ℕ) (c : List ℕ) (s n i : ℕ) : Type 0 where
   pub turns : i ≤ rows
   pub whole : rowsNumber 0 0 (rowsOf rows c) ≡ rowsNumber s n (drop i (rowsOf rows c))
 
--- row i's number, after one of submarket s and number n
-abbrev numberAt : List ℕ → ℕ → ℕ → ℕ → ℕ
-numberAt c s n i = rowNumber s n (plant (getD c i 0) (getD c (512 + i) 0) (getD c (1024 + i) 0) (getD c (1536 + i) 0) (getD c (2048 + i) 0))
-
 module _ (rows : ℕ) (c : List ℕ) where
-  step : (s n i : ℕ) → i < rows
-      → rowsNumber s n (drop i (rowsOf rows c)) ≡ numberAt c s n i then rowsNumber (getD c i 0) (getD c (512 + i) 0) (drop (i + 1) (rowsOf rows c))
-  unfolding rowsNumber rowAt
-  step s n i h =
-      let inside : i < length (rowsOf rows c) = omega (arith, length-rows rows c) in
-      ap (rowsNumber s n) (drop-cons (rowsOf rows c) i none inside ∙ ap (λ (p : Plant). p ∷ drop (suc i) (rowsOf rows c)) (row-at rows c i h)) ∙ rw (add-one i)
+  step : (s n i : ℕ) {p : Plant} → i < rows → p ≡ rowAt c i
+      → rowsNumber s n (drop i (rowsOf rows c)) ≡ rowNumber s n p then rowsNumber (p .submarket) (p .number) (drop (i + 1) (rowsOf rows c))
+  unfolding rowsNumber
+  step s n i h r =
+      ap (rowsNumber s n) (drop-more (rowsOf rows c) i none (omega (arith, length-rows rows c)) ∙ ap (λ (p : Plant). p ∷ drop (i + 1) (rowsOf rows c)) (row-at rows c i h ∙ sym r))
 
   last : (s n i : ℕ) → rows ≤ i → rowsNumber s n (drop i (rowsOf rows c)) ≡ 0
   unfolding rowsNumber
@@ -41,11 +34,12 @@ module _ {rows : ℕ} {c : List ℕ} where
   pub descending : Descending rows c 0 0 0
   descending = record { turns = zero-le; whole = refl }
 
-  pub descending-more : {s n i k : ℕ} → Descending rows c s n i → i < rows → k ≡ numberAt c s n i → k ≡ 0 → Descending rows c (getD c i 0) (getD c (512 + i) 0) (i + 1)
-  descending-more {s} {n} {i} d h e z = record { turns = omega arith; whole = d .whole ∙ step rows c s n i h ∙ sym (then-yes _ _ _ (sym z ∙ e) refl) }
+  pub descending-more : {s n i k : ℕ} {p : Plant} → Descending rows c s n i → i < rows → p ≡ rowAt c i → k ≡ rowNumber s n p → k ≡ 0
+      → Descending rows c (p .submarket) (p .number) (i + 1)
+  descending-more {s} {n} {i} d h r e z = record { turns = omega arith; whole = d .whole ∙ step rows c s n i h r ∙ sym (then-yes _ _ _ (sym z ∙ e) refl) }
 
-  pub halted : {s n i k : ℕ} → Descending rows c s n i → i < rows → k ≡ numberAt c s n i → (k ≡ 0 → ⊥) → k ≡ rowsNumber 0 0 (rowsOf rows c)
-  halted {s} {n} {i} d h e u = then-no _ _ _ e u ∙ sym (d .whole ∙ step rows c s n i h)
+  pub halted : {s n i k : ℕ} {p : Plant} → Descending rows c s n i → i < rows → p ≡ rowAt c i → k ≡ rowNumber s n p → (k ≡ 0 → ⊥) → k ≡ rowsNumber 0 0 (rowsOf rows c)
+  halted {s} {n} {i} d h r e u = then-no _ _ _ e u ∙ sym (d .whole ∙ step rows c s n i h r)
 
   pub descended : {s n i : ℕ} → Descending rows c s n i → rows ≤ i → 0 ≡ rowsNumber 0 0 (rowsOf rows c)
   descended {s} {n} {i} d h = sym (d .whole ∙ last rows c s n i h)

@@ -1,11 +1,12 @@
 // Questions 2 to 11, and 19 of a ledger at hand, which several calls put (document 01, 'The questions'): each function answers the number of its definition.
+use hour::Plant;
 use lists::MOST;
+use lists::PERIODS;
+use lists::PLANTS;
 use lists::in_range;
 ghost use mathlib.Core.Path.{_≡_};
-ghost use mathlib.Core.Bool.{true};
 ghost use Prim.Native.Nat.{_≤_};
 ghost use lib.ListN.{length};
-ghost use Rattle.lists.specs.Lists.{sum, most, atMost};
 ghost use Rattle.records.specs.Records.{rowsOf};
 ghost use Rattle.questions.specs.Questions.{plantsInLimits, periodsInLimits, sizesNumber, placed, numbered, rowNumber, rowsNumber, lengthsNumber, ledgerNumber, tablesNumber};
 
@@ -13,14 +14,14 @@ ghost use Rattle.questions.specs.Questions.{plantsInLimits, periodsInLim
 pub fn plants_in_limits(plants: u64) -> bool
     ensures { λ r. ⌜ r ≡ plantsInLimits plants ⌝ }
 {
-    in_range(1, 512, plants)
+    in_range(1, PLANTS as u64, plants)
 }
 
 // 3: H in limits?
 pub fn periods_in_limits(periods: u64) -> bool
     ensures { λ r. ⌜ r ≡ periodsInLimits periods ⌝ }
 {
-    in_range(1, 744, periods)
+    in_range(1, PERIODS as u64, periods)
 }
 
 // 2, 3 and 4: P, H and TEO in limits.
@@ -54,30 +55,23 @@ pub fn is_numbered(submarket_before: u64, number_before: u64, submarket: u64, nu
 }
 
 // 5 to 8 of a row, after the row before.
-pub fn row_number(
-    submarket_before: u64,
-    number_before: u64,
-    submarket: u64,
-    number: u64,
-    guarantee: u64,
-    loss: u64,
-    availability: u64,
-) -> u64
-    ensures { λ r. ⌜ r ≡ rowNumber «submarket_before» «number_before» (record { submarket = submarket; number = number; guarantee = guarantee; loss = loss; availability = availability }) ⌝ }
+pub fn row_number(submarket_before: u64, number_before: u64, plant: Plant) -> u64
+    ensures { λ r. ⌜ r ≡ rowNumber «submarket_before» «number_before» plant ⌝ }
 {
+    let submarket = plant.submarket;
     if !is_placed(submarket_before, submarket) {
         return 5;
     }
-    if !is_numbered(submarket_before, number_before, submarket, number) {
+    if !is_numbered(submarket_before, number_before, submarket, plant.number) {
         return 6;
     }
-    if 1000000000000 < guarantee {
+    if 1000000000000 < plant.guarantee {
         return 7;
     }
-    if 1000000 < loss {
+    if 1000000 < plant.loss {
         return 8;
     }
-    if 1000000 < availability {
+    if 1000000 < plant.availability {
         return 8;
     }
     0
@@ -92,33 +86,16 @@ pub fn rows_number(n: usize, columns: &[u64]) -> u64
     let mut number_before: u64 = 0;
     let mut i: usize = 0;
     while i < n {
-        let submarket = columns[i];
-        let number = columns[512 + i];
-        let no = row_number(
-            submarket_before,
-            number_before,
-            submarket,
-            number,
-            columns[1024 + i],
-            columns[1536 + i],
-            columns[2048 + i],
-        );
+        let plant = records::row_at(columns, i);
+        let no = row_number(submarket_before, number_before, plant);
         if no != 0 {
             return no;
         }
-        submarket_before = submarket;
-        number_before = number;
+        submarket_before = plant.submarket;
+        number_before = plant.number;
         i += 1;
     }
     0
-}
-
-// The sum of figures in limits, of a profile or of a metered list.
-pub fn total(figures: &[u64]) -> u64
-    requires { ⌜ (length (now figures) ≤ 744) × (atMost most (now figures) ≡ true) ⌝ }
-    ensures { λ r. ⌜ r ≡ sum (now (figures .entry)) ⌝ }
-{
-    lists::sum_of(figures)
 }
 
 // 11: ledger lists of exactly 4P and 2P, for P in limits.
@@ -169,7 +146,7 @@ pub fn tables_number(
     if !lists::at_most(MOST, profile) {
         return 9;
     }
-    if total(profile) == 0 {
+    if lists::sum_of(profile) == 0 {
         return 10;
     }
     lengths_number(plants, allotted, accounts)

@@ -1,10 +1,11 @@
 // The month file for C.
+use file_calls::FinishAnswer;
 use kept_file::KeptFed;
 use kept_file::KeptFile;
-use kept_file::KeptFinished;
 ghost use mathlib.Core.Path.{_≡_};
-ghost use Rattle.file_lines.specs.State.{atStart};
-ghost use Rattle.file_calls.specs.Checking.{fileLists, FinishedAny};
+ghost use Rattle.file_lines.specs.State.{kept, atStart};
+ghost use Rattle.month_file.specs.Run.{place};
+ghost use Rattle.file_calls.specs.Checking.{FinishedAny};
 ghost use Rattle.kept_file.specs.Files.{fileOf, keptFileOf, FileFed};
 
 // kept_file::begin_kept.
@@ -26,7 +27,7 @@ pub extern "C" fn iolwarch_file_feed(
     allotted: &mut [u64],
     accounts: &mut [i64],
 ) -> KeptFed
-    ensures { λ r. ⌜ FileFed file (now (part .entry)) (fileLists (now (line .entry)) (now (columns .entry)) (now (profile .entry)) (now (allotted .entry)) (now (accounts .entry))) r (fileLists (now (line .exit)) (now (columns .exit)) (now (profile .exit)) (now (allotted .exit)) (now (accounts .exit))) ⌝ }
+    ensures { λ r. ⌜ FileFed file (kept (now (columns .entry)) (now (profile .entry)) (now (allotted .entry)) (now (accounts .entry))) (now (line .entry)) (now (part .entry)) r (kept (now (columns .exit)) (now (profile .exit)) (now (allotted .exit)) (now (accounts .exit))) (now (line .exit)) ⌝ }
 {
     kept_file::feed_kept(file, part, line, columns, profile, allotted, accounts)
 }
@@ -41,8 +42,8 @@ pub extern "C" fn iolwarch_file_finish(
     allotted: &[u64],
     accounts: &[i64],
     text: &mut [u8],
-) -> KeptFinished
-    ensures { λ r. ⌜ FinishedAny (fileOf file) (fileLists (now (line .entry)) (now (columns .entry)) (now (profile .entry)) (now (allotted .entry)) (now (accounts .entry))) (now (text .entry)) (record { number = r .number; length = r .length }) (now (text .exit)) ⌝ }
+) -> FinishAnswer
+    ensures { λ r. ⌜ FinishedAny (place (fileOf file) (kept (now (columns .entry)) (now (profile .entry)) (now (allotted .entry)) (now (accounts .entry))) (now (line .entry))) (now (text .entry)) r (now (text .exit)) ⌝ }
 {
     kept_file::finish_kept(file, line, columns, profile, allotted, accounts, text)
 }

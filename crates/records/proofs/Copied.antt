@@ -2,13 +2,13 @@
 use mathlib.Core.Path.{_≡_, refl, ap, _∙_}
 use Prim.Native.Nat.{ℕ, zero, suc, _+_, _-_, _<_, _≤_, min}
 use native.Mathlib.Nat.{zero-min, min-zero, suc-min-suc}
-use native.Mathlib.Numerals.{add-one}
 use native.Mathlib.Omega.{arith}
 use mathlib.Core.List.{List, [], _∷_}
 use mathlib.Core.WellFounded.{WellFounded, InvImage·wf}
 use lib.ListN.{length, getD, take, drop, length-set, length-take, drop-of-length-le}
-use lib.Seq.{drop-cons, getD-take}
+use lib.Seq.{getD-take}
 use lib.WfN.{Nat·lt-wfRel}
+use Rattle.lists.proofs.Loops.{drop-more}
 use Rattle.hour.specs.declared.Plant.{Plant}
 use Rattle.hour.specs.Table.{none}
 use Rattle.records.specs.Records.{putRow, putRows}
@@ -40,7 +40,7 @@ module _ (n : ℕ) (ps : List Plant) (xs : List ℕ) where
     unfolding putRows
     turned ys i l =
         let h : i < length (take n ps) = simp length-take (omega arith) in
-        rw (drop-cons (take n ps) i none h, getD-take) (ap (λ (k : ℕ). putRows (putRow ys i (getD ps i none)) (i + 1) (drop k (take n ps))) (add-one i))
+        rw (drop-more (take n ps) i none h, getD-take)
 
     abbrev pub next : (s : State) → s .i < n → (zs : List ℕ) → zs ≡ putRow (s .ys) (s .i) (getD ps (s .i) none) → State
     next s l zs e = record {

@@ -1,9 +1,21 @@
 // The plant table as one lent list of plant records (document 01, 'Plants, profile, ledger'), copied to five columns of 512 places.
 use hour::Plant;
+use lists::PLANTS;
 ghost use mathlib.Core.Path.{_≡_};
 ghost use Prim.Native.Nat.{_<_, _≤_, min};
 ghost use lib.ListN.{length, take};
-ghost use Rattle.records.specs.Records.{columnOf, Held, putRow, putRows};
+ghost use Rattle.records.specs.Records.{columnOf, Held, putRow, putRows, rowAt};
+
+// Where the columns begin, after the submarkets; and the places of all five.
+const NUMBERS: usize = PLANTS;
+
+const GUARANTEES: usize = 2 * PLANTS;
+
+const LOSSES: usize = 3 * PLANTS;
+
+const AVAILABILITIES: usize = 4 * PLANTS;
+
+pub const COLUMNS: usize = 5 * PLANTS;
 
 // Writes a record to place i of the five columns.
 pub fn put_row(columns: &mut [u64], i: usize, plant: Plant)
@@ -11,10 +23,24 @@ pub fn put_row(columns: &mut [u64], i: usize, plant: Plant)
     ensures { λ _. ⌜ now (columns .exit) ≡ putRow (now (columns .entry)) i plant ⌝ }
 {
     columns[i] = plant.submarket;
-    columns[512 + i] = plant.number;
-    columns[1024 + i] = plant.guarantee;
-    columns[1536 + i] = plant.loss;
-    columns[2048 + i] = plant.availability;
+    columns[NUMBERS + i] = plant.number;
+    columns[GUARANTEES + i] = plant.guarantee;
+    columns[LOSSES + i] = plant.loss;
+    columns[AVAILABILITIES + i] = plant.availability;
+}
+
+// The record at place i of the five columns.
+pub fn row_at(columns: &[u64], i: usize) -> Plant
+    requires { ⌜ (2560 ≤ length (now columns)) × (i < 512) ⌝ }
+    ensures { λ r. ⌜ r ≡ rowAt (now (columns .entry)) i ⌝ }
+{
+    Plant {
+        submarket: columns[i],
+        number: columns[NUMBERS + i],
+        guarantee: columns[GUARANTEES + i],
+        loss: columns[LOSSES + i],
+        availability: columns[AVAILABILITIES + i],
+    }
 }
 
 // Writes the first n records to the five columns.
@@ -33,15 +59,15 @@ pub fn copy_rows(plants: &[Plant], n: usize, columns: &mut [u64])
 pub fn capped(n: usize) -> usize
     ensures { λ r. ⌜ r ≡ min n 512 ⌝ }
 {
-    if n < 512 { n } else { 512 }
+    if n < PLANTS { n } else { PLANTS }
 }
 
 // The columns of the first 512 records.
-pub fn columns(plants: &[Plant]) -> [u64; 2560]
+pub fn columns(plants: &[Plant]) -> [u64; COLUMNS]
     ensures { λ r. ⌜ Held (now (plants .entry)) (length (now (plants .entry))) r ⌝ }
 {
     let n = capped(plants.len());
-    let mut c = [0u64; 2560];
+    let mut c = [0u64; COLUMNS];
     copy_rows(plants, n, &mut c);
     c
 }
@@ -51,7 +77,7 @@ pub fn column(columns: &[u64], k: usize, n: usize) -> &[u64]
     requires { ⌜ (2560 ≤ length (now columns)) × (k < 5) × (n ≤ 512) ⌝ }
     ensures { λ r. ⌜ (now r ≡ columnOf k n (now (columns .entry))) × (length (now r) ≡ n) ⌝ }
 {
-    let first = 512 * k;
+    let first = PLANTS * k;
     let end = first + n;
     &columns[first..end]
 }

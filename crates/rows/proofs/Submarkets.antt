@@ -3,14 +3,14 @@ use mathlib.Core.Path.{_≡_, refl, sym, ap, _∙_}
 use mathlib.Core.List.{List, [], _∷_}
 use Prim.Native.Nat.{ℕ, _+_, _-_, _≤_, _<_, zero-le}
 use native.Mathlib.Nat.{zero-add}
-use native.Mathlib.Numerals.{add-one}
 use native.Mathlib.Omega.{arith}
 use native.Mathlib.Decide.{ℕ-discrete}
 use lib.ListN.{length, drop, set, length-set, drop-of-length-le}
-use lib.Seq.{drop-cons, getD-set-same, getD-set-other, ext-getD}
+use lib.Seq.{getD-set-same, getD-set-other, ext-getD}
 use borrow.Author.Tests.{eq-eqb, ne-eqb}
 use Rattle.lists.specs.Lists.{sum}
 use Rattle.lists.specs.Columns.{rowwise, _⊖_, within, inside, at, totals}
+use Rattle.lists.proofs.Loops.{drop-more}
 use Rattle.lists.proofs.Columns.{_!_, each, at-totals, sum-le, fewer, within-le}
 
 -- A loop that sums xs by submarket: with u the sums of the first i rows
@@ -24,8 +24,7 @@ module _ (subs xs : List ℕ) where
   turn : (s i : ℕ) → i < length subs → length xs ≡ length subs
       → sum (within s (drop i subs) (drop i xs)) ≡ inside s (subs ! i) (xs ! i) + sum (within s (drop (i + 1) subs) (drop (i + 1) xs))
   unfolding sum rowwise
-  turn s i h e =
-      rw (add-one, drop-cons subs i 0 h, drop-cons xs i 0 (rw e h))
+  turn s i h e = rw (drop-more subs i 0 h, drop-more xs i 0 (rw e h))
 
   none : (s i : ℕ) → length subs ≤ i → length xs ≤ i → sum (within s (drop i subs) (drop i xs)) ≡ 0
   unfolding sum rowwise

@@ -118,7 +118,7 @@ pub fn share_out(metered: &[u64], whole: u64, a: &[u64], b: &mut [u64], r: &mut 
     ensures { λ _. ⌜ now (r .exit) ≡ rightsBy share (sum (now (metered .entry)) - sum (now (a .entry))) (now (a .entry)) (now (metered .entry)) ⌝ }
     ensures { λ z. ⌜ z ≡ sum (now (metered .entry)) - sum (now (a .entry)) ⌝ }
 {
-    let generation = sharing::weights_total(metered);
+    let generation = lists::sum_of(metered);
     let secondary = over(generation, whole);
     covered_into(generation, whole, a, b);
     rights_into(secondary, whole, a, metered, r);

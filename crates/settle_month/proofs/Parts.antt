@@ -11,10 +11,10 @@ use Rattle.file_lines.specs.File.{settledFile}
 use Rattle.month_file.specs.Bytes.{finished}
 use Rattle.file_lines.specs.State.{Kept, Valid}
 use Rattle.month_file.specs.Machine.{readingOf, Fresh, Fed}
-use Rattle.month_file.specs.Run.{Place, Feeds, none, more}
+use Rattle.month_file.specs.Run.{Place, place, Feeds, none, more}
 use Rattle.month_file.proofs.Parts.{Alike, alike-self, alike-more}
 use Rattle.month_file.proofs.Run as run
-use Rattle.settle_month.specs.Input.{place, Taken, Settled, unread, written}
+use Rattle.settle_month.specs.Input.{Taken, Settled, unread, written}
 
 -- the same bytes, said in another way
 pub fed-same : {f r : MonthFile} {k q : Kept} {line part same after : List ℕ} → Fed f k line part r q after → part ≡ same → Fed f k line same r q after

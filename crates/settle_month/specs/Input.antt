@@ -5,13 +5,8 @@ use mathlib.Core.Path.{_≡_}
 use mathlib.Core.List.{List, flatten}
 use Prim.Native.Nat.{ℕ}
 use Rattle.statement.specs.Writing.{Fills}
-use Rattle.file_lines.specs.declared.MonthFile.{MonthFile}
 use Rattle.file_lines.specs.File.{settledFile}
-use Rattle.file_lines.specs.State.{Kept}
 use Rattle.month_file.specs.Run.{Place, Feeds}
-
-abbrev pub place : MonthFile → Kept → List ℕ → Place
-place f k line = record { file = f; lists = k; line = line }
 
 -- some parts were fed, one after another
 pub record Taken (a b : Place) : Type 0 where

@@ -2,11 +2,17 @@
 // and its statement'). All that it keeps lies in arrays of `main`.
 use file_lines::MonthFile;
 use file_lines::beginning::fresh;
+use ledger::ACCOUNTS;
+use ledger::ALLOTTED;
 use libc::STDERR_FILENO;
 use libc::STDIN_FILENO;
 use libc::STDOUT_FILENO;
+use lines::fields::LONGEST;
+use lists::PERIODS;
+use lists::PLANTS;
 use month_file::feeding::feed;
 use month_file::finishing::finish;
+use records::COLUMNS;
 ghost use Prim.Native.Nat.{_≤_};
 ghost use lib.ListN.{length, take};
 ghost use Rattle.lines.specs.Fields.{longest};
@@ -14,7 +20,8 @@ ghost use Rattle.statement.specs.Statement.{roomFor};
 ghost use Rattle.io.specs.Counts.{clamped};
 ghost use Rattle.file_lines.specs.State.{kept, Lent, Valid};
 ghost use Rattle.month_file.specs.Machine.{Fed};
-ghost use Rattle.settle_month.specs.Input.{place, Taken, Settled};
+ghost use Rattle.month_file.specs.Run.{place};
+ghost use Rattle.settle_month.specs.Input.{Taken, Settled};
 
 // What was read: the state, and whether the input came to its end.
 struct Input {
@@ -102,12 +109,12 @@ fn tell(line: &[u8]) {
 
 fn main() {
     let mut part = [0u8; 65536];
-    let mut line = [0u8; 8192];
-    let mut columns = [0u64; 2560];
-    let mut profile = [0u64; 744];
-    let mut allotted = [0u64; 2048];
-    let mut accounts = [0i64; 1024];
-    let mut text = [0u8; 65664];
+    let mut line = [0u8; LONGEST];
+    let mut columns = [0u64; COLUMNS];
+    let mut profile = [0u64; PERIODS];
+    let mut allotted = [0u64; ALLOTTED * PLANTS];
+    let mut accounts = [0i64; ACCOUNTS * PLANTS];
+    let mut text = [0u8; 128 * PLANTS + 128];
     let length = settle_input(
         &mut part,
         &mut line,

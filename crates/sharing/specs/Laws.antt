@@ -7,6 +7,7 @@ use lib.ListN.{length, getD, take, replicate}
 use Rattle.lists.specs.Lists.{sum}
 use Rattle.sharing.specs.Sharing.{Rule, partBetween, share}
 
+-- A rule whose parts are as 'Sharing' promises
 pub record Lawful (rule : Rule) : Type 0 where
   -- a part for each weight
   pub sized : (t : ℕ) (ws : List ℕ) → length (rule t ws) ≡ length ws

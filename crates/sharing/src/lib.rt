@@ -1,31 +1,12 @@
 // Sharing (document 01, 'Sharing'): the rule on slices, and the public call.
 ghost use mathlib.Core.Path.{_≡_};
 ghost use mathlib.Core.List.{_++_};
-ghost use Prim.Native.Nat.{_^_, _≤_, _<_, min};
+ghost use Prim.Native.Nat.{_^_, _≤_, _<_};
 ghost use lib.ListN.{length, drop};
 ghost use Rattle.lists.specs.Lists.{sum};
 ghost use Rattle.sharing.specs.Sharing.{share};
 ghost use Rattle.sharing.specs.Calls.{Shared, sharingCall};
-
-// Totals of weights and shared figures stay below this.
-const LIMIT: u64 = 4611686018427387904;
-
-// The sum of the weights, or 2^62 where it is that or more.
-pub fn weights_total(weights: &[u64]) -> u64
-    ensures { λ r. ⌜ r ≡ min (2 ^ 62) (sum (now (weights .entry))) ⌝ }
-{
-    let mut w: u64 = 0;
-    let mut i: usize = 0;
-    while i < weights.len() {
-        let x = weights[i];
-        if LIMIT - w <= x {
-            return LIMIT;
-        }
-        w = w + x;
-        i = i + 1;
-    }
-    w
-}
+use lists::LIMIT;
 
 // Shares t over the weights, whose sum is w, into the front of parts. The rest of parts stays.
 pub fn share_into(t: u64, w: u64, weights: &[u64], parts: &mut [u64])
@@ -52,7 +33,7 @@ pub fn share(total: u64, weights: &[u64], parts: &mut [u64]) -> u64
     if weights.len() != parts.len() {
         return 24;
     }
-    let w = weights_total(weights);
+    let w = lists::sum_of(weights);
     if w >= LIMIT {
         return 24;
     }

@@ -1,20 +1,19 @@
 -- The accounts of a list of nets: the net column is the nets, the money column is net × tariff. Assumes nothing.
-use mathlib.Core.Path.{_≡_, refl, sym, ap, _∙_, subst}
-use Prim.Native.Nat.{ℕ, _+_, _*_}
+use mathlib.Core.Path.{_≡_, refl, sym, ap, _∙_}
+use Prim.Native.Nat.{ℕ, zero, suc, _+_, _*_}
 use native.Mathlib.Omega.{arith}
 use mathlib.Core.List.{List, [], _∷_}
 use lib.IntN.{ℤ, pos, _*ℤ_, zero-*ℤ, *ℤ-one, one}
-use lib.ListN.{length, getD, length-map, List·getD-map}
+use lib.ListN.{length, getD, length-map}
 use lib.Seq.{ext-getD}
 use Rattle.lists.specs.Columns.{column}
+use Rattle.lists.proofs.Columns.{getD-map}
 use Rattle.lists.proofs.Rows.{Even, column-place, column-byRow, length-byRow}
 use Rattle.signed.specs.Figures.{atRate, accountsOf}
 
 -- each net at a rate: the nets themselves at 1, money at the tariff
 pub at-rate : (rate : ℕ) (nets : List ℤ) (i : ℕ) → getD (atRate rate nets) i (pos 0) ≡ getD nets i (pos 0) *ℤ pos rate
-at-rate rate nets i =
-    subst (λ d. getD (atRate rate nets) i d ≡ getD nets i (pos 0) *ℤ pos rate) (zero-*ℤ (pos rate))
-    (List·getD-map (λ z. z *ℤ pos rate) nets i (pos 0))
+at-rate rate = getD-map (λ z. z *ℤ pos rate) (pos 0) (zero-*ℤ (pos rate))
 
 unit : (z : ℤ) → z *ℤ pos 1 ≡ z
 unfolding one
@@ -26,7 +25,9 @@ rate-one nets =
 
 module _ (tariff : ℕ) (nets : List ℤ) where
   even : Even (length nets) (nets ∷ atRate tariff nets ∷ [])
-  even = (refl, (length-map nets (λ z. z *ℤ pos tariff), tt))
+  even zero h = refl
+  even (suc zero) h = length-map nets (λ z. z *ℤ pos tariff)
+  even (suc (suc j)) h = absurd (omega arith)
 
   pub length-accounts : length (accountsOf tariff nets) ≡ 2 * length nets
   unfolding accountsOf

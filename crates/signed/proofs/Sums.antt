@@ -7,17 +7,17 @@ use lib.IntN.{ℤ, pos, subℕ, _+ℤ_, _*ℤ_, +ℤ-idl, +ℤ-idr, zero-*ℤ}
 use lib.ListN.{getD}
 use Rattle.lists.specs.Lists.{sum, sumℤ}
 use Rattle.lists.specs.Columns.{rowwise, _⊕ℤ_}
-use Rattle.signed.proofs.View.{less-plus, less-sub, less-pos, same-less, same-view, less-zero, plus-swap, times-plus}
+use Rattle.signed.proofs.View.{view-sub, less-plus, less-pos, same-less, same-view, less-zero, plus-swap, times-plus}
 
 pub sub-plus : (a b c d : ℕ) → subℕ a b +ℤ subℕ c d ≡ subℕ (a + c) (b + d)
-sub-plus a b c d = same-less (less-plus (less-sub a b) (less-sub c d)) (less-sub (a + c) (b + d))
+sub-plus a b c d = same-less (less-plus (view-sub a b) (view-sub c d)) (view-sub (a + c) (b + d))
 
 pub sub-self : (a : ℕ) → subℕ a a ≡ pos 0
-sub-self a = less-zero (less-sub a a) refl
+sub-self a = less-zero (view-sub a a) refl
 
 -- what is allotted and the net are what is metered
 pub plus-sub : (x y : ℕ) → pos x +ℤ subℕ y x ≡ pos y
-plus-sub x y = same-view (pos x +ℤ subℕ y x) (pos y) (omega (arith, less-plus (less-pos x) (less-sub y x)))
+plus-sub x y = same-view (pos x +ℤ subℕ y x) (pos y) (omega (arith, less-plus (less-pos x) (view-sub y x)))
 
 pub sumℤ-⊕ : (xs ys : List ℤ) → sumℤ (xs ⊕ℤ ys) ≡ sumℤ xs +ℤ sumℤ ys
 unfolding rowwise sumℤ

@@ -1,19 +1,18 @@
 -- A signed number z as a difference of two naturals, `up z` less `dn z`, one of which is 0. `omega` reads no ℤ, and reads these.
 --     view-plus, view-minus, view-neg   what the parts of a sum, a difference and a negation are, as facts for `omega`'s list
---     view-ge                           what a test `z < 0` that failed says of the parts
 --     same-view                         two signed numbers with one difference are equal
 --     abs-plus, abs-minus, abs-times    bounds on absolute values
 --     sfits-abs, back                   a figure whose absolute value is below 2 ^ 63 fits an `i64`, and is read back from its bits
 -- Assumes nothing.
-use mathlib.Core.Path.{_≡_, refl, sym, ap, subst, _∙_}
+use mathlib.Core.Path.{_≡_, refl, sym, ap, _∙_}
 use mathlib.Core.Bool.{Bool, true, false, cond}
 use Prim.Native.Nat.{ℕ, zero, suc, _+_, _-_, _*_, _^_, _≤_, _<_}
 use native.Mathlib.Nat.{lt-of-le-of-lt, zero-mul, add-mul}
 use native.Mathlib.Omega.{arith}
 use borrow.Author.Tests.{ltb-true, ltb-false}
-use lib.Dec.{T, ltb}
+use lib.Dec.{ltb}
 use lib.IntN.{ℤ, pos, negsuc, negℤ, natAbs, subℕ, _+ℤ_, _-ℤ_, _*ℤ_}
-use lib.Signed.{mag, ltZ, nonNeg}
+use lib.Signed.{mag}
 use mir.Syntax.{w64}
 use mir.Val.{SFits}
 
@@ -31,7 +30,7 @@ pub view-abs : (z : ℤ) → natAbs z ≡ up z + dn z
 view-abs (pos n) = omega arith
 view-abs (negsuc n) = omega arith
 
--- the parts of a − b
+-- z is a − b
 pub record Parts (z : ℤ) (a b : ℕ) : Type 0 where
   pub even : up z + b ≡ a + dn z
   pub up-le : up z ≤ a
@@ -72,37 +71,29 @@ same-view (negsuc a) (negsuc b) h = ap negsuc (omega arith)
 
 -- ---- a number as a difference of two naturals, which need not be its parts
 
--- z is a less b
-pub record Less (z : ℤ) (a b : ℕ) : Type 0 where
-  pub less : up z + b ≡ a + dn z
-
-pub less-pos : (n : ℕ) → Less (pos n) n 0
+pub less-pos : (n : ℕ) → Parts (pos n) n 0
 less-pos n = omega arith
 
-pub less-plus : {x y : ℤ} {a b c d : ℕ} → Less x a b → Less y c d → Less (x +ℤ y) (a + c) (b + d)
+pub less-plus : {x y : ℤ} {a b c d : ℕ} → Parts x a b → Parts y c d → Parts (x +ℤ y) (a + c) (b + d)
 less-plus {x} {y} p q = omega (arith, view-plus x y)
 
-pub less-minus : {x y : ℤ} {a b c d : ℕ} → Less x a b → Less y c d → Less (x -ℤ y) (a + d) (b + c)
+pub less-minus : {x y : ℤ} {a b c d : ℕ} → Parts x a b → Parts y c d → Parts (x -ℤ y) (a + d) (b + c)
 less-minus {x} {y} p q = omega (arith, view-minus x y)
 
 -- two numbers that are the same difference are equal
-pub same-less : {x y : ℤ} {a b : ℕ} → Less x a b → Less y a b → x ≡ y
+pub same-less : {x y : ℤ} {a b : ℕ} → Parts x a b → Parts y a b → x ≡ y
 same-less {x} {y} p q = same-view x y (omega arith)
-
--- a difference of naturals
-pub less-sub : (a b : ℕ) → Less (subℕ a b) a b
-less-sub a b = record { less = view-sub a b .even }
 
 -- net kWh: metered, less covered guarantee, less right to secondary energy
 pub net-is : (g b r : ℕ) → pos g -ℤ pos b -ℤ pos r ≡ subℕ g (b + r)
 net-is g b r =
     same-view (pos g -ℤ pos b -ℤ pos r) (subℕ g (b + r))
-    (omega (arith, less-minus (less-minus (less-pos g) (less-pos b)) (less-pos r), less-sub g (b + r)))
+    (omega (arith, less-minus (less-minus (less-pos g) (less-pos b)) (less-pos r), view-sub g (b + r)))
 
 pub net-abs : (g b r : ℕ) → natAbs (subℕ g (b + r)) ≤ g + b + r
 net-abs g b r = omega (arith, view-sub g (b + r), view-abs (subℕ g (b + r)))
 
-pub less-zero : {z : ℤ} {a b : ℕ} → Less z a b → a ≡ b → z ≡ pos 0
+pub less-zero : {z : ℤ} {a b : ℕ} → Parts z a b → a ≡ b → z ≡ pos 0
 less-zero {z} p e = same-view z (pos 0) (omega arith)
 
 -- a sum of four, regrouped
@@ -115,16 +106,6 @@ pub times-plus : (x y : ℤ) (t : ℕ) → (x +ℤ y) *ℤ pos t ≡ x *ℤ pos 
 times-plus x y t =
     same-view ((x +ℤ y) *ℤ pos t) (x *ℤ pos t +ℤ y *ℤ pos t)
     (omega (arith, view-times (x +ℤ y) t, view-times x t, view-times y t, view-plus (x *ℤ pos t) (y *ℤ pos t), simp add-mul at (ap (λ (n : ℕ). n * t) (view-plus x y .even))))
-
--- ---- the order
-
-pub view-ge : (z : ℤ) → ltZ z (pos 0) ≡ false → dn z ≤ up z
-view-ge (pos n) e = omega arith
-view-ge (negsuc n) e = absurd (subst T e tt)
-
-pub view-nonneg : (z : ℤ) → dn z ≤ up z → T (nonNeg z)
-view-nonneg (pos n) h = tt
-view-nonneg (negsuc n) h = absurd (omega arith)
 
 -- ---- absolute values
 

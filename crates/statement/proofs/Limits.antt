@@ -44,7 +44,7 @@ module _ {ss ns : List ℕ} {l : Ledger} (ok : Stateable ss ns l) where
   pub sums-asked : (length (l .allotted) ≤ 2048) × Within (l .allotted) kwhBound
   sums-asked = (omega (arith, ok .few, ok .even .figures), bounded l (ok .bounded) .allotted)
 
-  pub sums-fit : {sums : List ℕ} → sums ≡ four (λ s. sum (allottedIn s l)) → sum sums < 2 ^ 64
+  pub sums-fit : {sums : List ℕ} → sums ≡ four (λ s. sum (allottedIn s l)) → sum sums < 2 ^ 62
   sums-fit e = rw e (omega (arith, sum-low l (ok .bounded) (sums-asked .0)))
 
 -- ---- lengths

@@ -2,7 +2,6 @@
 use mathlib.Core.Path.{_≡_, refl, sym, ap, ap₂, _∙_}
 use mathlib.Core.List.{List, [], _∷_, _++_, map, append-assoc}
 use Prim.Native.Nat.{ℕ, _+_, _-_, _*_, _≤_, _<_}
-use native.Mathlib.Nat.{add-zero}
 use native.Mathlib.Numerals.{add-one}
 use native.Mathlib.Omega.{arith}
 use lib.IntN.{ℤ, pos}
@@ -10,7 +9,7 @@ use lib.ListN.{length, take, drop, getD, length-append, drop-of-length-le}
 use lib.Seq.{drop-drop, getD-drop}
 use Rattle.lists.specs.Lists.{sum}
 use Rattle.lists.specs.Columns.{four}
-use Rattle.lists.proofs.Loops.{rest-more, rest-none}
+use Rattle.lists.proofs.Loops.{rest-more, rest-none, at-drop}
 use Rattle.figures.specs.Figures.{figure, signedFigure, commasBefore, byCommas, figureLength, signedFigureLength}
 use Rattle.hour.specs.declared.Plant.{Plant}
 use Rattle.hour.specs.Table.{plantsOf}
@@ -71,7 +70,7 @@ module _ (ss ns al : List ℕ) (ac : List ℤ) where
       ap (λ (q : List Plant). plantLines q (drop (4 * i) al) (drop (2 * i) ac)) (row-at i ss ns [] [] [] h)
       ∙ ap₂ _++_
       (ap₂ (plantLine (shown (getD ss i 0) (getD ns i 0)) (take 4 (drop (4 * i) al)))
-      (getD-drop (2 * i) ac 0 (pos 0) ∙ ap (λ (n : ℕ). getD ac n (pos 0)) (add-zero (2 * i))) (getD-drop (2 * i) ac 1 (pos 0)))
+      (at-drop ac (2 * i) (pos 0)) (getD-drop (2 * i) ac 1 (pos 0)))
       (ap (λ (n : ℕ). plantLines (drop n ps) (drop 4 (drop (4 * i) al)) (drop 2 (drop (2 * i) ac))) (sym (add-one i))
       ∙ ap₂ (plantLines (drop (i + 1) ps)) (drop-drop 4 (4 * i) al ∙ ap (λ (n : ℕ). drop n al) four) (drop-drop 2 (2 * i) ac ∙ ap (λ (n : ℕ). drop n ac) two))
 

@@ -25,6 +25,7 @@ pub record InLimits (settled : ℕ) (plants : List Plant) (l : Ledger) : Type 0 
   -- 19
   pub bounded : inBounds l ≡ true
 
+-- of a statement's length, and of what it shows of the plant table
 pub record Promised : Type 0 where
   -- what 22 asks for is enough: a statement takes at most 128P + 128 bytes
   pub fits : (settled : ℕ) (plants : List Plant) (l : Ledger) → InLimits settled plants l → length (statementText settled plants l) ≤ roomFor (length plants)

@@ -18,7 +18,7 @@ abbrev pub plants : List Plant
 plants = plant 1 10 100 ∷ plant 1 11 50 ∷ plant 2 20 60 ∷ []
 
 -- the ledger after the month's one hour; `negsuc 22` is -23
-abbrev ledger : Ledger
+abbrev pub ledger : Ledger
 ledger =
     record {
       allotted = 85 ∷ 0 ∷ 0 ∷ 0 ∷ 43 ∷ 0 ∷ 0 ∷ 0 ∷ 22 ∷ 30 ∷ 0 ∷ 0 ∷ [];
@@ -26,23 +26,28 @@ ledger =
     }
 
 -- `A,1,10,85,0,0,0,45,58500` and its end
-abbrev pub first : List ℕ
+abbrev first : List ℕ
 first = 65 ∷ 44 ∷ 49 ∷ 44 ∷ 49 ∷ 48 ∷ 44 ∷ 56 ∷ 53 ∷ 44 ∷ 48 ∷ 44 ∷ 48 ∷ 44 ∷ 48 ∷ 44 ∷ 52 ∷ 53 ∷ 44 ∷ 53 ∷ 56 ∷ 53 ∷ 48 ∷ 48 ∷ 10 ∷ []
 
 -- `A,1,11,43,0,0,0,-23,-29900`
-abbrev pub second : List ℕ
+abbrev second : List ℕ
 second =
     65 ∷ 44 ∷ 49 ∷ 44 ∷ 49 ∷ 49 ∷ 44 ∷ 52 ∷ 51 ∷ 44 ∷ 48 ∷ 44 ∷ 48 ∷ 44 ∷ 48 ∷ 44 ∷ 45 ∷ 50 ∷ 51 ∷ 44 ∷ 45 ∷ 50 ∷ 57 ∷ 57 ∷ 48 ∷ 48 ∷ 10 ∷ []
 
 -- `A,2,20,22,30,0,0,-22,-28600`
-abbrev pub third : List ℕ
+abbrev third : List ℕ
 third =
     65 ∷ 44 ∷ 50 ∷ 44 ∷ 50 ∷ 48 ∷ 44 ∷ 50 ∷ 50 ∷ 44 ∷ 51 ∷ 48 ∷ 44 ∷ 48 ∷ 44 ∷ 48 ∷ 44 ∷ 45 ∷ 50 ∷ 50 ∷ 44 ∷ 45 ∷ 50 ∷ 56 ∷ 54 ∷ 48 ∷ 48 ∷ 10 ∷ []
 
 -- `T,1,3,150,30,0,0,180`
-abbrev pub total : List ℕ
+abbrev total : List ℕ
 total = 84 ∷ 44 ∷ 49 ∷ 44 ∷ 51 ∷ 44 ∷ 49 ∷ 53 ∷ 48 ∷ 44 ∷ 51 ∷ 48 ∷ 44 ∷ 48 ∷ 44 ∷ 48 ∷ 44 ∷ 49 ∷ 56 ∷ 48 ∷ 10 ∷ []
 
-pub worked : statementText 1 plants ledger ≡ first ++ (second ++ (third ++ total))
+-- the paper's statement: these four lines
+abbrev pub statement : List ℕ
+statement = first ++ (second ++ (third ++ total))
+
+-- ... is that of the ledger, by computing
+pub worked : statementText 1 plants ledger ≡ statement
 unfolding sum column digits figure minus signedFigure commasBefore byCommas line plantLine plantLines totalLine statementText
 worked = refl

@@ -118,7 +118,7 @@ fn write_plant_lines(
 
 // The T line: periods settled, P, column sums, their sum.
 fn write_total_line(settled: u64, plants: u64, columns: &[u64], text: &mut [u8], at: usize) -> usize
-    requires { ⌜ sum (now columns) < 2 ^ 64 ⌝ }
+    requires { ⌜ sum (now columns) < 2 ^ 62 ⌝ }
     requires { ⌜ Room (totalLine settled plants (now columns)) at (now text) ⌝ }
     ensures { λ r. ⌜ Wrote (totalLine settled plants (now (columns .entry))) at (now (text .entry)) (now (text .exit)) r ⌝ }
 {

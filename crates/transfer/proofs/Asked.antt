@@ -2,12 +2,10 @@
 use mathlib.Core.Path.{_≡_}
 use mathlib.Core.Bool.{true}
 use mathlib.Core.List.{List, []}
-use Prim.Native.Nat.{ℕ, _^_, _≤_, _<_}
-use native.Mathlib.Omega.{arith}
+use Prim.Native.Nat.{ℕ, _≤_}
 use borrow.Author.Tests.{leb-true, le-leb}
-use lib.ListN.{length}
 use Rattle.lists.specs.Lists.{sum, most, atMost}
-use Rattle.lists.proofs.Questions.{asked, both, yes, all-yes, and-both, sum-at-most}
+use Rattle.lists.proofs.Questions.{asked, both, yes, all-yes, and-both}
 use Rattle.transfer.specs.Calls.{apart, transferNumber}
 
 pub record Transferable (left need : List ℕ) : Type 0 where
@@ -29,7 +27,3 @@ module _ (left need : List ℕ) where
   unfolding transferNumber
   is-transferable t =
       yes _ 23 [] 0 (and-both _ _ (t .leftHourly) (and-both _ _ (t .needHourly) (and-both _ _ (le-leb (sum need) (sum left) (t .enough)) (t .noBoth)))) all-yes
-
--- four figures in limits add up to less than the weights' limit
-pub small : (xs : List ℕ) → length xs ≡ 4 → atMost most xs ≡ true → sum xs < 2 ^ 62
-small xs e h = omega (arith, sum-at-most xs most h)

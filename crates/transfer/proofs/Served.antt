@@ -5,9 +5,9 @@ use native.Mathlib.Omega.{arith}
 use mathlib.Core.List.{List, [], _∷_}
 use lib.ListN.{length, getD}
 use Rattle.lists.specs.Lists.{sum}
-use Rattle.lists.specs.Columns.{rowwise, _⊖_, Below, joined, four, at, transpose}
+use Rattle.lists.specs.Columns.{rowwise, _⊖_, Below, joined, transpose}
 use Rattle.lists.proofs.Sums.{at-le-sum}
-use Rattle.lists.proofs.Columns.{_!_, length-rowwise, at-⊕, at-⊖, sum-⊖, sum-ext, at-joined, transpose-at, transpose-sum}
+use Rattle.lists.proofs.Columns.{_!_, four-is, length-rowwise, sum-⊖, below-⊕, sum-ext, at-joined, getD-transpose, transpose-sum}
 use Rattle.sharing.specs.Sharing.{Rule}
 use Rattle.transfer.specs.Transfer.{serve, transfer}
 use Rattle.sharing.specs.Laws.{Lawful}
@@ -33,13 +33,9 @@ module _ {rule : Rule} (L : Lawful rule) where
 
   serve-under : (ws ts : List ℕ) → sum ts ≤ sum ws → Below (joined (serve rule ws ts)) ws
   unfolding serve sum joined
-  serve-under ws [] h i = omega arith
-  serve-under ws (t ∷ ts) h i =
-      let k = serve-under (ws ⊖ rule t ws) ts (let a = fallen t ws (omega arith) in omega arith) i in
-      let a = at-⊕ (rule t ws) (joined (serve rule (ws ⊖ rule t ws) ts)) i in
-      let b = at-⊖ ws (rule t ws) i in
-      let c = L .bounded t ws (omega arith) i in
-      omega arith
+  serve-under ws [] h = λ i. omega arith
+  serve-under ws (t ∷ ts) h =
+      below-⊕ (rule t ws) _ ws (L .bounded t ws (omega arith)) (serve-under (ws ⊖ rule t ws) ts (let a = fallen t ws (omega arith) in omega arith))
 
   -- a table of what n givers have left has n rows
   pub transfer-rows : (ws : List ℕ) (t : ℕ) (ts : List ℕ) → length (transfer rule ws (t ∷ ts)) ≡ length ws
@@ -57,10 +53,10 @@ module _ {rule : Rule} (L : Lawful rule) where
   unfolding transfer
   served left need h =
       record {
-        received = λ r. column r ∙ serve-adds left need h r;
+        received = λ r. sym (transpose-sum (transpose 0 cols) r) ∙ column r ∙ serve-adds left need h r;
         given = λ g. let a = transpose-sum cols g in let b = serve-under left need h g in omega arith;
         apart = λ s e.
-            let a = transpose-at cols s s in
+            let a = getD-transpose 0 cols s s in
             let b = at-le-sum (getD cols s []) s in
             let c = serve-adds left need h s in
             let d = at-joined cols s s in
@@ -72,21 +68,9 @@ module _ {rule : Rule} (L : Lawful rule) where
       cols = serve rule left need
 
       column : (r : ℕ) → sum (getD (transpose 0 (transpose 0 cols)) r []) ≡ sum (getD cols r [])
-      column r = sum-ext _ _ (λ g. transpose-at (transpose 0 cols) r g ∙ transpose-at cols g r)
+      column r = sum-ext _ _ (λ g. getD-transpose 0 (transpose 0 cols) r g ∙ getD-transpose 0 cols g r)
 
 -- ---- lists of four
-pub four-is : {A : Type 0} (d : A) (xs : List A) → length xs ≡ 4 → xs ≡ getD xs 0 d ∷ getD xs 1 d ∷ getD xs 2 d ∷ getD xs 3 d ∷ []
-four-is d (x ∷ y ∷ z ∷ w ∷ []) e = refl
-four-is d [] e = absurd (omega arith)
-four-is d (x ∷ []) e = absurd (omega arith)
-four-is d (x ∷ y ∷ []) e = absurd (omega arith)
-four-is d (x ∷ y ∷ z ∷ []) e = absurd (omega arith)
-four-is d (x ∷ y ∷ z ∷ w ∷ v ∷ xs) e = absurd (omega arith)
-
-pub four-rowwise : (f : ℕ → ℕ → ℕ) (xs ys : List ℕ) → length xs ≡ 4 → length ys ≡ 4 → four (λ s. f (at s xs 0) (at s ys 0)) ≡ rowwise f 0 0 xs ys
-unfolding rowwise
-four-rowwise f xs ys p q = sym (rw (four-is 0 xs p, four-is 0 ys q))
-
 pub four-sum : (xs : List ℕ) → length xs ≡ 4 → xs ! 0 + xs ! 1 + xs ! 2 + xs ! 3 ≡ sum xs
 unfolding sum
 four-sum xs p = sym (ap sum (four-is 0 xs p) ∙ omega arith)

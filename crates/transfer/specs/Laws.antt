@@ -4,7 +4,7 @@ use mathlib.Core.List.{List, []}
 use Prim.Native.Nat.{ℕ, _+_, _≤_, min}
 use lib.ListN.{getD}
 use Rattle.lists.specs.Lists.{sum}
-use Rattle.lists.specs.Columns.{transpose}
+use Rattle.lists.specs.Columns.{joined}
 use Rattle.sharing.specs.Sharing.{Rule}
 use Rattle.sharing.specs.Laws.{Lawful}
 use Rattle.transfer.specs.Transfer.{transfer}
@@ -18,12 +18,12 @@ abbrev pub rowSum : List (List ℕ) → ℕ → ℕ
 rowSum table g = place table g 0 + place table g 1 + place table g 2 + place table g 3
 
 abbrev pub columnSum : List (List ℕ) → ℕ → ℕ
-columnSum table r = place table 0 r + place table 1 r + place table 2 r + place table 3 r
+columnSum table r = getD (joined table) r 0
 
 -- the table of step 5, where the needs are no more than what is left in sum
 pub record Served (rule : Rule) (left need : List ℕ) : Type 0 where
   -- each receiver's column adds up to its need
-  pub received : (r : ℕ) → sum (getD (transpose 0 (transfer rule left need)) r []) ≡ getD need r 0
+  pub received : (r : ℕ) → columnSum (transfer rule left need) r ≡ getD need r 0
   -- no giver's row passes what it had
   pub given : (g : ℕ) → sum (getD (transfer rule left need) g []) ≤ getD left g 0
   -- a submarket that has not both gives itself nothing

@@ -4,7 +4,7 @@ use mathlib.Core.List.{List, [], _∷_}
 use Rattle.lists.specs.Columns.{_⊖_, transpose}
 use Rattle.sharing.specs.Sharing.{Rule}
 
--- amounts in turn, each shared over what is still open, which then falls
+-- amounts in turn, each shared over what is still open, which then falls (steps 5 and 6)
 unfoldable pub serve : {A : Type 0} → (A → List ℕ → List ℕ) → List ℕ → List A → List (List ℕ)
 serve rule open′ [] = []
 serve rule open′ (t ∷ ts) = rule t open′ ∷ serve rule (open′ ⊖ rule t open′) ts

@@ -34,7 +34,7 @@ pub fn share_four(t: u64, weights: [u64; 4]) -> [u64; 4]
     requires { ⌜ sum weights < 2 ^ 62 ⌝ }
     ensures { λ r. ⌜ r ≡ share t weights ⌝ }
 {
-    let w = sharing::weights_total(&weights);
+    let w = lists::sum_of(&weights);
     let mut parts = [0u64; 4];
     sharing::share_into(t, w, &weights, &mut parts);
     parts
@@ -115,7 +115,7 @@ pub fn transfer_number(left: [u64; 4], need: [u64; 4]) -> u64
     if !lists::at_most(MOST, &need) {
         return 23;
     }
-    if sharing::weights_total(&left) < sharing::weights_total(&need) {
+    if lists::sum_of(&left) < lists::sum_of(&need) {
         return 23;
     }
     if !are_apart(left, need) {

@@ -23,7 +23,7 @@ returns c =
     let e = getD (s .args .t1) (s .args .s + 1) 0 in
     let t = total-block (s .args .t1) (length (s .args .figures .now)) (s .pre .0) (s .args .figures .now) refl (s .args .s) (s .pre .2) in
     let p = part-le-sum (s .args .figures .now) a (e - a) in
-    omega (arith, c .weights-total .ensures)
+    omega (arith, c .sum-of .ensures)
 
 pub block-sum-spec : {M : Type 1} → statement M
 block-sum-spec =

@@ -1,11 +1,14 @@
 -- `blocks::share_block` meets its contract: nothing is shared, or the parts are handed over. Assumes nothing.
 use mathlib.Core.Path.{_≡_, sym}
 use mathlib.Core.List.{List}
-use Prim.Native.Nat.{ℕ}
+use Prim.Native.Nat.{ℕ, _-_}
+use native.Mathlib.Nat.{sub-zero}
 use native.Mathlib.Omega.{arith}
 use lib.ListN.{length, take, length-take}
+use Rattle.lists.proofs.Columns.{rowwise-nothing}
 use Rattle.sharing.specs.Sharing.{share}
-use Rattle.blocks.proofs.Shares.{fall-nothing, raise-nothing, zero-parts, parts-length, parts-below, front-parts}
+use Rattle.blocks.proofs.Handed.{no-rise, raise-nothing}
+use Rattle.blocks.proofs.Shares.{zero-parts, parts-length, parts-below, front-parts}
 use borrow.Author.Needs.{needs}
 use Rattle.blocks.proofs.share_block.Statement.{statement}
 use Rattle.blocks.proofs.share_block.Tie as tie
@@ -29,8 +32,8 @@ returns : tie.Need-returns
 returns c =
     let s = c .before .before .before .before in
     let z = zero-parts (s .args .n) (want s) (s .pre .0 .0) (s .args .amount) (c .if1 .taken) in (
-      fall-nothing (want s) (parts s) (let a = sized s in omega arith) z,
-      raise-nothing (s .args .column) (parts s) (s .args .figures .now) z,
+      sym (rowwise-nothing _-_ sub-zero (want s) (parts s) (let a = sized s in omega arith) z),
+      raise-nothing (λ i j. no-rise (s .args .column) (parts s) i j (z i)),
     )
 
 slice-aggregate-parts-into : tie.Need-slice-aggregate-parts-into

@@ -11,8 +11,7 @@ use Rattle.sharing.specs.Sharing.{share}
 use Rattle.sharing.proofs.Sharing.{share-lawful}
 use Rattle.blocks.specs.Portion.{portion}
 use Rattle.blocks.specs.Blocks.{standingAt, Raised, inColumn}
-use Rattle.blocks.proofs.Portion.{portion-sized}
-use Rattle.blocks.proofs.Slices.{block, end-below, standing-length, total-block, portion-block}
+use Rattle.blocks.proofs.Slices.{block, end-below, portion-length, total-block, portion-block}
 use Rattle.blocks.proofs.Shares.{Blocked, blocked, blocked-more, blocked-done, blocked-raised, same-want, lent-block, lent-room, lent-long, tail-length, turn-fits, turn-less}
 use borrow.Author.Needs.{needs}
 use Rattle.blocks.proofs.share_blocks.Statement.{statement}
@@ -27,10 +26,7 @@ abbrev μ-loop : tie.MeasureT-loop
 
 -- the parts have the rows' number
 sized : (c : tie.Start Inv-loop μ-loop) → let w = c .args .want .now in length (portion share (standingAt (c .args .t1)) (c .args .t2) w) ≡ length w
-sized c =
-    let w = c .args .want .now in
-    let a = portion-sized share-lawful (standingAt (c .args .t1)) (c .args .t2) w in
-    let b = standing-length (c .args .t1) (length w) (c .pre .0 .0) in omega arith
+sized c = portion-length (c .args .t1) _ (c .pre .0 .0) share-lawful (c .args .t2) (c .args .want .now) refl
 
 loop-holds : tie.Need-loop-holds Inv-loop μ-loop
 loop-holds c = let s = c .before .before .before in (refl, blocked (s .pre .0 .0) (sized s) (s .pre .0 .2))

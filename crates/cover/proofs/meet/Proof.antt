@@ -6,7 +6,7 @@ use native.Mathlib.Omega.{arith}
 use lib.ListN.{length}
 use Rattle.lists.specs.Lists.{sum, most}
 use Rattle.lists.specs.Columns.{_⊖_, _⊓_, Below, four, totals}
-use Rattle.lists.proofs.Columns.{fewer}
+use Rattle.lists.proofs.Columns.{min-left, min-right, fewer}
 use Rattle.sharing.specs.Sharing.{share}
 use Rattle.transfer.specs.Transfer.{serve, transfer}
 use Rattle.transfer.specs.Laws.{rowSum}
@@ -17,7 +17,7 @@ use Rattle.blocks.specs.Blocks.{standingAt, Rising, Raised, inColumns, Room}
 use Rattle.cover.specs.Givers.{gotBy, SentWithin}
 use Rattle.cover.proofs.Cover.{transfer-asked}
 use Rattle.cover.proofs.Serving.{four-within}
-use Rattle.cover.proofs.Meeting.{min-left, min-right, room-first, sited, still-is, still-room, still-sized, sent-within, rows-below, rest-is, meets}
+use Rattle.cover.proofs.Meeting.{room-first, sited, still-is, still-room, still-sized, sent-within, rows-below, rest-is, meets}
 use borrow.Author.Needs.{needs}
 use Rattle.cover.proofs.meet.Statement.{statement}
 use Rattle.cover.proofs.meet.Tie as tie

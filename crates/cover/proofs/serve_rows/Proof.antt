@@ -11,8 +11,7 @@ use Rattle.sharing.proofs.Sharing.{share-lawful}
 use Rattle.transfer.proofs.Served.{length-serve}
 use Rattle.blocks.specs.Portion.{portion}
 use Rattle.blocks.specs.Blocks.{standingAt, Rising}
-use Rattle.blocks.proofs.Portion.{portion-sized}
-use Rattle.blocks.proofs.Slices.{standing-length, standing-le}
+use Rattle.blocks.proofs.Slices.{portion-length, standing-le}
 use Rattle.blocks.proofs.Shares.{turn-fits, turn-less}
 use Rattle.cover.proofs.Serving.{Giving, giving, giving-more, row-fits, four-within, given}
 use borrow.Author.Needs.{needs}
@@ -69,8 +68,7 @@ loop-again c =
     let short : length row ≤ 4 =
     let a = length-rowwise _-_ 0 0 (l .still) row in let d = ap length (c .less .ensures) in let e = c .less .ok .1 .0 .1 in omega arith in
     let sized : length (portion share (standingAt (s .args .starts)) row (l .want)) ≡ length (l .want) =
-    let a = portion-sized share-lawful (standingAt (s .args .starts)) row (l .want) in
-    let d = standing-length (s .args .starts) (length (s .args .want .now)) (s .pre .0 .0) in let e = k .same in omega arith in (
+    portion-length (s .args .starts) _ (s .pre .0 .0) share-lawful row (l .want) (k .same) ∙ sym (k .same) in (
       b .share-blocks .kept .1 .1 .1 .1 .1 .0 ∙ l .inv .0,
       giving-more k (t .loop-test .taken) (rows s) short (standing-le (s .args .starts) (length (s .args .want .now)) (s .pre .0 .0)) sized
           (b .share-blocks .ensures .0) (b .share-blocks .ensures .1) (c .less .ensures),

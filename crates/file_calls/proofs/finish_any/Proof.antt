@@ -13,4 +13,4 @@ finish-any-spec =
     (λ c. finish-refused (c .before .finish-number .ensures) (c .if1 .taken))  -- returns
     (λ c κs. finish-good (c .before .before .finish-number .ensures) (c .before .if1 .left))  -- finish-requires
     (λ c. search needs)  -- same-length-2
-    (λ c. finish-written _ _ _ _ _ (c .before .before .before .before .before .finish-number .ensures) (c .before .before .before .before .if1 .left) (c .before .before .finish .ensures)))  -- returns-2
+    (λ c. finish-written (c .before .before .before .before .before .finish-number .ensures) (c .before .before .before .before .if1 .left) (c .before .before .finish .ensures)))  -- returns-2

@@ -5,6 +5,7 @@ use native.Mathlib.Omega.{arith}
 use lib.ListN.{length}
 use borrow.Author.Needs.{needs}
 use Rattle.lists.specs.Lists.{sum}
+use Rattle.lists.proofs.Bounds.{hours-small}
 use Rattle.lists.specs.Columns.{_⊕_, four, byRow}
 use Rattle.cover.specs.Cover.{supplied}
 use Rattle.blocks.specs.Blocks.{Rising, standingAt}
@@ -12,8 +13,9 @@ use Rattle.blocks.proofs.Starts.{standing-at, starts-rising}
 use Rattle.hour.proofs.Allotment.{allotment-built}
 use Rattle.hour.specs.Hour.{Hour, hourOf, submarkets, guarantees, secondary, covered, deficit, surplus, leftOver, rights, coverTable, secondaryTable, nets, allotment}
 use Rattle.hour.specs.Table.{plantsOf}
-use Rattle.hour.proofs.Limits.{profile-small, guarantees-are, guarantees-small, guarantees-sized, sound}
-use Rattle.hour.proofs.Whole.{secondary-is, covered-is, rights-are, deficit-is, surplus-is, nets-are, begun-is, cover-is, left-is, supplied-is, deficit-met, surplus-small, again-is, supplied-again, rights-met, left-small, covered-sized, rights-sized, deficit-sized, covered-small, rights-small, begun-low, first-low, subs-are}
+use Rattle.hour.proofs.Guarantees.{guarantees-columns}
+use Rattle.hour.proofs.Limits.{subs-are, guarantees-small, guarantees-sized, sound}
+use Rattle.hour.proofs.Whole.{secondary-is, covered-is, rights-are, deficit-is, surplus-is, nets-are, begun-is, cover-is, left-is, supplied-is, deficit-met, surplus-small, again-is, rights-met, left-small, covered-sized, rights-sized, deficit-sized, covered-small, rights-small, begun-low, first-low}
 use Rattle.hour.proofs.work_in.Statement.{statement}
 use Rattle.hour.proofs.work_in.Tie as tie
 
@@ -46,7 +48,7 @@ hour c =
 
 -- ---- steps 1 and 2
 a-is : (c : tie.After-guarantees-of) → c .guarantees-of .last .1 .1 .1 .1 .1 .0 ≡ guarantees (hour (before-guarantees c))
-a-is c = c .guarantees-of .ensures .0 ∙ sym (guarantees-are (before-guarantees c .pre .0))
+a-is c = c .guarantees-of .ensures .0 ∙ sym (guarantees-columns _ _ _ _ _ _ _ _ (before-guarantees c .pre .0 .equal .guarantees))
 
 sum-is : (c : tie.After-guarantees-of) → c .guarantees-of .result ≡ sum (guarantees (hour (before-guarantees c)))
 sum-is c = c .guarantees-of .ensures .1 ∙ ap sum (a-is c)
@@ -117,14 +119,14 @@ figures-are c =
     let at = before-first (before-second c) in
     let t = t-is (before-meet (before-second c)) in
     c .meet2 .ensures .1 .1
-    ∙ (λ i. (before-second c .meet .ensures .1 .1 i) ⊕ supplied-again w t (v-is (before-second c)) (r-is (before-prepare at)) i)
+    ∙ (λ i. (before-second c .meet .ensures .1 .1 i) ⊕ supplied-is w t (v-is (before-second c)) (r-is (before-prepare at)) i)
     ∙ (λ i. (at .prepare .ensures .1 .1 .0 ∙ begun-is w (b-is (before-prepare at))) i ⊕ supplied-is w t (u-is at) (d-is at) i ⊕ byRow 0 (four (supplied (hour (start₇ c) .rule) (submarkets (hour (start₇ c))) (leftOver (hour (start₇ c))) (rights (hour (start₇ c))))))
     ∙ sym (allotment-built (hour (start₇ c)) (sound w))
 
 guarantees-of-requires : tie.Need-guarantees-of-requires
 guarantees-of-requires c κs =
     let w = c .before .before .before .before .before .before .before .before .before .before .before .before .before .before .pre .0 in let l = c .before .before .before .before .before .before .before .before .before .before .before .before .before .before .pre .1 .0 in (
-      (w .begun, w .due, w .whole, profile-small w),
+      (w .begun, w .due, w .whole, hours-small _ (w .periods) (w .hourly)),
       (
         (w .equal .losses ∙ sym (w .equal .guarantees), w .equal .availabilities ∙ sym (w .equal .guarantees), l ∙ sym (w .equal .guarantees)),
         ((w .guarantees, w .losses, w .availabilities), (let e = w .equal .guarantees in let m = w .rows in omega arith)),

@@ -1,6 +1,6 @@
 -- `feed_kept` meets its contract. Assumes nothing.
 use borrow.Author.Needs.{needs}
-use Rattle.kept_file.proofs.KeptFiles.{feeds}
+use Rattle.kept_file.proofs.KeptFiles.{feeds-refused, feeds-taken}
 use Rattle.kept_file.proofs.feed_kept.Statement.{statement}
 use Rattle.kept_file.proofs.feed_kept.Tie as tie
 
@@ -10,10 +10,16 @@ feed-kept-spec =
     (tie.spec
     (λ c κs. tt)  -- file-of-requires
     (λ c κs. tt)  -- feed-any-requires
-    (λ c κs. tt)  -- file-back-requires
     (λ c. search needs)  -- same-length
     (λ c. search needs)  -- same-length-2
     (λ c. search needs)  -- same-length-3
     (λ c. search needs)  -- same-length-4
     (λ c. search needs)  -- same-length-5
-    (λ c. feeds _ _ _ _ (c .before .before .before .before .before .before .before .before .before .before .before .before .before .before .before .before .before .file-of .ensures) (c .before .before .before .before .before .before .before .before .before .before .before .feed-any .ensures) (c .file-back .ensures)))  -- returns
+    (λ c. feeds-refused (c .before .before .before .before .before .before .before .before .before .before .before .before .before .before .before .before .before .file-of .ensures) (c .before .before .before .before .before .before .before .before .before .before .before .feed-any .ensures) (c .if1 .taken))  -- returns
+    (λ c κs. tt)  -- kept-file-of-requires
+    (λ c. search needs)  -- same-length-6
+    (λ c. search needs)  -- same-length-7
+    (λ c. search needs)  -- same-length-8
+    (λ c. search needs)  -- same-length-9
+    (λ c. search needs)  -- same-length-10
+    (λ c. feeds-taken (c .before .before .before .before .before .before .before .before .before .before .before .before .before .before .before .before .before .before .file-of .ensures) (c .before .before .before .before .before .before .before .before .before .before .before .before .feed-any .ensures) (c .before .if1 .left) (c .kept-file-of .ensures)))  -- returns-2

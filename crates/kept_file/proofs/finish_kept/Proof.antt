@@ -11,4 +11,4 @@ finish-kept-spec =
     (λ c κs. tt)  -- file-of-requires
     (λ c κs. tt)  -- finish-any-requires
     (λ c. search needs)  -- same-length
-    (λ c. finishes _ _ _ _ (c .before .before .before .before .file-of .ensures) (c .before .before .finish-any .ensures)))  -- returns
+    (λ c. finishes (c .before .before .before .before .file-of .ensures) (c .before .before .finish-any .ensures)))  -- returns

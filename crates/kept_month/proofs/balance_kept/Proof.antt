@@ -1,6 +1,5 @@
 -- `balance_kept` meets its contract. Assumes nothing.
-use mir.Syntax.{w64}
-use mir.Facts.{toZ-ofZ}
+use Rattle.signed.proofs.Machine.{read-is}
 use Rattle.kept_month.proofs.Kept.{balances}
 use Rattle.kept_month.proofs.balance_kept.Statement.{statement}
 use Rattle.kept_month.proofs.balance_kept.Tie as tie
@@ -13,6 +12,5 @@ balance-kept-spec =
     (λ c κs. tt)  -- balance-requires
     (λ c.
     let b = c .before .before .balance .result in
-    let net = toZ-ofZ {w = w64} {z = b .net} (record { sfits = c .struct-told .given .1 .1 .1 .0 .1 }) in
-    let money = toZ-ofZ {w = w64} {z = b .money} (record { sfits = c .struct-told .given .1 .1 .1 .1 .0 .1 }) in
-    balances _ _ (c .before .before .before .month-of .ensures) (c .before .before .balance .ensures) net money))  -- returns
+    let told = c .struct-told .given .1 .1 .1 in
+    balances _ _ (c .before .before .before .month-of .ensures) (c .before .before .balance .ensures) (read-is (b .net) (told .0 .1)) (read-is (b .money) (told .1 .0 .1))))  -- returns

@@ -8,7 +8,7 @@ use lib.IntN.{ℤ, pos, natAbs, _+ℤ_, _*ℤ_}
 use lib.ListN.{length, getD}
 use mir.Syntax.{w64}
 use mir.Val.{toZ, ofZ}
-use Rattle.lists.proofs.Loops.{updating, updating-kept}
+use Rattle.lists.proofs.Loops.{filling-kept, updating}
 use Rattle.signed.specs.Figures.{accountsOf}
 use Rattle.signed.proofs.Accounts.{length-accounts, net-at, money-at}
 use Rattle.signed.proofs.Machine.{read-is, result-is}
@@ -66,13 +66,13 @@ add-at-requires : tie.Need-add-at-requires Inv-loop μ-loop
 unfolding net
 add-at-requires c κs =
     let a = c .before .before .before .before in
-    omega (arith, ap natAbs (net-is (c .before .before)), a .before .pre .hour .at (a .loop .i), a .before .pre .ledger .at (accountsWidth * a .loop .i), ap natAbs (updating-kept (a .loop .inv)), ap (λ (k : ℕ). natAbs (getD (a .loop .accounts) k (pos 0))) (add-zero (accountsWidth * a .loop .i)))
+    omega (arith, ap natAbs (net-is (c .before .before)), a .before .pre .hour .at (a .loop .i), a .before .pre .ledger .at (accountsWidth * a .loop .i), ap natAbs (filling-kept (a .loop .inv .now) (pos 0)), ap (λ (k : ℕ). natAbs (getD (a .loop .accounts) k (pos 0))) (add-zero (accountsWidth * a .loop .i)))
 
 add-at-requires-2 : tie.Need-add-at-requires-2 Inv-loop μ-loop
 unfolding net money
 add-at-requires-2 c κs =
     let a = c .before .before .before .before .before .before .before in
-    omega (arith, ap natAbs (money-is (c .before .before .before .before)), rated-small (a .before .pre) (a .loop .i), a .before .pre .ledger .at (accountsWidth * a .loop .i + 1), ap natAbs (updating-kept (half (c .before))), half (c .before) .now .same)
+    omega (arith, ap natAbs (money-is (c .before .before .before .before)), rated-small (a .before .pre) (a .loop .i), a .before .pre .ledger .at (accountsWidth * a .loop .i + 1), ap natAbs (filling-kept (half (c .before) .now) (pos 0)), half (c .before) .now .same)
 
 loop-again : tie.Need-loop-again Inv-loop μ-loop
 unfolding net money

@@ -5,7 +5,7 @@ use native.Mathlib.Omega.{arith}
 use native.Mathlib.Nat.{le-refl}
 use borrow.Author.Needs.{needs}
 use lib.ListN.{length}
-use Rattle.lists.proofs.Loops.{updating, updating-kept, updating-more}
+use Rattle.lists.proofs.Loops.{filling-kept, updating, updating-more}
 use Rattle.ledger.proofs.Lists.{Joining, joined-all}
 use Rattle.ledger.proofs.add_figures.Statement.{statement}
 use Rattle.ledger.proofs.add_figures.Tie as tie
@@ -19,7 +19,7 @@ abbrev μ-loop : tie.MeasureT-loop
 add-figures : tie.Need-add-figures Inv-loop μ-loop
 add-figures c =
     let a = c .before .before .before in
-    omega (arith, updating-kept (a .loop .inv), a .before .pre .ledger .at (a .loop .i), a .before .pre .hour .at (a .loop .i))
+    omega (arith, filling-kept (a .loop .inv .now) 0, a .before .pre .ledger .at (a .loop .i), a .before .pre .hour .at (a .loop .i))
 
 loop-again : tie.Need-loop-again Inv-loop μ-loop
 loop-again c = updating-more (c .before .before .before .loop .inv) (omega arith) refl

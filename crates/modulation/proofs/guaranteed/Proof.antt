@@ -4,14 +4,12 @@ use native.Mathlib.Nat.{mul-le-mul}
 use native.Mathlib.Omega.{arith}
 use borrow.Author.Needs.{needs}
 use Rattle.modulation.proofs.Digits.{scaled}
-use Rattle.modulation.proofs.Profile.{part-by-le}
+use Rattle.modulation.proofs.Profile.{part-le}
 use Rattle.modulation.proofs.guaranteed.Statement.{statement}
 use Rattle.modulation.proofs.guaranteed.Tie as tie
 
 part : (c : tie.After-modulated) → c .modulated .result ≤ c .before .args .q
-part c =
-    let start = c .before in
-    rw (c .modulated .ensures) (part-by-le (start .args .before) (start .args .upto) (start .args .q) (start .pre .0))
+part c = rw (c .modulated .ensures) (part-le (c .before .args .q) _ _ _ (c .before .pre .0 .second .atMostOne))
 
 pub guaranteed-spec : {M : Type 1} → statement M
 guaranteed-spec =

@@ -1,11 +1,12 @@
 -- `modulation::guarantees_into` meets its contract. Assumes nothing.
 use mathlib.Core.Path.{sym, _∙_}
-use Prim.Native.Nat.{_-_, _*_, _/_}
+use Prim.Native.Nat.{_-_}
 use lib.ListN.{length}
 use native.Mathlib.Nat.{le-trans}
 use Rattle.lists.specs.Lists.{table}
 use Rattle.lists.proofs.Loops.{Tabling}
 use Rattle.lists.proofs.Written.{written, written-all}
+use Rattle.sharing.specs.Sharing.{partBetween}
 use Rattle.modulation.specs.Guarantee.{guaranteeWith}
 use Rattle.modulation.specs.Totals.{Consecutive, partBy}
 use Rattle.modulation.proofs.guarantees_into.Statement.{statement}
@@ -37,7 +38,7 @@ returns c =
     let a = c .before .before .before .ratio-of .ensures in let b = c .before .before .ratio-of2 .ensures in
     let gs = start .args .guarantee .now in
     written-all _ (c .before .loop .inv) (c .loop-test .left) (start .pre .1 .0 .2)
-    ∙ (λ k. table (length gs) (guaranteeWith (λ q. q * b .1 k / b .2 k - q * a .1 k / a .2 k) gs (start .args .loss .now) (start .args .availability .now)))
+    ∙ (λ k. table (length gs) (guaranteeWith (λ q. partBetween q (b .2 k) (a .1 k) (b .1 k)) gs (start .args .loss .now) (start .args .availability .now)))
 
 pub guarantees-into-spec : {M : Type 1} → statement M
 guarantees-into-spec =

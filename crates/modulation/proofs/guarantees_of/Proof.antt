@@ -34,12 +34,10 @@ small c =
     let start = c .before .before .before .before .before .before .before .before in
     let p = start .pre .0 in let w = start .pre .1 .1 .0 in
     rw (is-a c)
-    (let a = guarantees-le (start .args .profile .now) (start .args .period) (p .0) (p .1) (start .args .guarantee .now) (start .args .loss .now) (start .args .availability .now) (p .2) (p .3) (w .0) (w .1) (w .2) in
-    let b = start .pre .1 .1 .1 in
-    omega arith)
+    (guarantees-le (start .args .profile .now) (start .args .period) (p .0) (p .1) (start .args .guarantee .now) (start .args .loss .now) (start .args .availability .now) (start .pre .1 .1 .1) (p .2) (p .3) (w .0) (w .1) (w .2))
 
 returns : tie.Need-returns
-returns c = (is-a (c .before .before .before .before), c .weights-total .ensures ∙ (let a = small (c .before .before .before .before) in omega arith))
+returns c = (is-a (c .before .before .before .before), c .sum-of .ensures ∙ (let a = small (c .before .before .before .before) in omega arith))
 
 pub guarantees-of-spec : {M : Type 1} → statement M
 guarantees-of-spec =
@@ -47,6 +45,6 @@ guarantees-of-spec =
     (tie.spec
     (λ c κs. search needs)  -- modulation-at-requires
     guarantees-into-requires
-    (λ c κs. search needs)  -- weights-total-requires
+    (λ c κs. search needs)  -- sum-of-requires
     (λ c. search needs)  -- same-length
     returns)

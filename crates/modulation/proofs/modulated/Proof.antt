@@ -16,4 +16,4 @@ modulated-spec =
     (λ c κs. search needs)  -- times-requires
     (λ c κs. search needs)  -- times-requires-2
     sub-result
-    (λ c. search needs))  -- returns
+    (λ c. rw (c .before .times .ensures, c .times2 .ensures, c .before .before .pre .0 .same)))  -- returns

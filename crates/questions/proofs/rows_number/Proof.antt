@@ -18,20 +18,7 @@ rows-number-spec =
     Inv-loop
     μ-loop
     (λ c. search rows)  -- loop-holds
-    (λ c. search needs)  -- mul-submarket
-    (λ c. search needs)  -- shared-slice-read-submarket
-    (λ c. search needs)  -- add-number
-    (λ c. search needs)  -- mul-number
-    (λ c. search needs)  -- shared-slice-read-number
-    (λ c. search needs)  -- add-row-number
-    (λ c. search needs)  -- mul-row-number
-    (λ c. search needs)  -- shared-slice-read-row-number
-    (λ c. search needs)  -- add-row-number-2
-    (λ c. search needs)  -- mul-row-number-2
-    (λ c. search needs)  -- shared-slice-read-row-number-2
-    (λ c. search needs)  -- add-row-number-3
-    (λ c. search needs)  -- mul-row-number-3
-    (λ c. search needs)  -- shared-slice-read-row-number-3
+    (λ c κs. search needs)  -- row-at-requires
     (λ c κs. search needs)  -- row-number-requires
     (λ c. search rows)  -- returns
     (λ c. search needs)  -- add-i

@@ -34,13 +34,13 @@ loop-again c =
     let smaller = c .before .before .before .before .smaller in
     let i = at-loop .loop .i in
     let subs = start .args .submarket .now in let g = start .args .metered .now in let b = start .args .covered .now in
-    let own : (s : ℕ) → 1 ≤ s → s ≤ 4 → figure start (4 * i + (s - 1)) ≡ inside s (getD subs i 0) (smaller .result) =
-    λ s l k. own-at subs (g ⊓ b) (rows start) s l k i ∙ ap (inside s (getD subs i 0)) (at-⊓ g b i ∙ sym (smaller .ensures)) in
+    let own : (s : ℕ) → 1 ≤ s → s ≤ 4 → inside s (getD subs i 0) (smaller .result) ≡ figure start (4 * i + (s - 1)) =
+    λ s l k. ap (inside s (getD subs i 0)) (smaller .ensures ∙ sym (at-⊓ g b i)) ∙ sym (own-at subs (g ⊓ b) (rows start) s l k i) in
     four-more (figure start) (at-loop .loop .inv) (c .before .before .before .before .before .before .before .before .loop-test .taken)
-    (own 1 (omega arith) (omega arith) ∙ sym (c .before .before .before .figure-in .ensures))
-    (own 2 (omega arith) (omega arith) ∙ sym (c .before .before .figure-in2 .ensures))
-    (own 3 (omega arith) (omega arith) ∙ sym (c .before .figure-in3 .ensures))
-    (own 4 (omega arith) (omega arith) ∙ sym (c .figure-in4 .ensures))
+    (c .before .before .before .figure-in .ensures ∙ own 1 (omega arith) (omega arith))
+    (c .before .before .figure-in2 .ensures ∙ own 2 (omega arith) (omega arith))
+    (c .before .figure-in3 .ensures ∙ own 3 (omega arith) (omega arith))
+    (c .figure-in4 .ensures ∙ own 4 (omega arith) (omega arith))
 
 returns : tie.Need-returns Inv-loop μ-loop
 returns c =

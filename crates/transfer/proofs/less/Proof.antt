@@ -1,6 +1,7 @@
 -- `transfer::less` meets its contract. Assumes nothing.
+use mathlib.Core.Path.{sym}
 use Prim.Native.Nat.{_-_}
-use Rattle.transfer.proofs.Served.{four-rowwise}
+use Rattle.lists.proofs.Columns.{rowwise-table}
 use native.Mathlib.Omega.{arith}
 use borrow.Author.Needs.{needs}
 use Rattle.transfer.proofs.less.Statement.{statement}
@@ -19,7 +20,7 @@ sub-t32 : tie.Need-sub-t32
 sub-t32 c = omega (arith, c .pre 3)
 
 returns : tie.Need-returns
-returns c = four-rowwise _-_ _ _ (c .good .0 .1 .0 .1) (c .good .1 .0 .1 .0 .1)
+returns c = sym (rowwise-table _-_ 0 0 4 _ _ (c .good .0 .1 .0 .1) (c .good .1 .0 .1 .0 .1))
 
 pub less-spec : {M : Type 1} → statement M
 less-spec =

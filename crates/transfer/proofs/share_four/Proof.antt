@@ -16,8 +16,8 @@ pub share-four-spec : {M : Type 1} → statement M
 share-four-spec =
     tie.close
     (tie.spec
-    (λ c. search needs)  -- slice-aggregate-weights-total
-    (λ c κs. search needs)  -- weights-total-requires
+    (λ c. search needs)  -- slice-aggregate-sum-of
+    (λ c κs. search needs)  -- sum-of-requires
     (λ c. search needs)  -- slice-aggregate-share-into
     (λ c. search needs)  -- slice-aggregate-share-into-2
     (λ c κs. search needs)  -- share-into-requires

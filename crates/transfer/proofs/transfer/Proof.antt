@@ -2,14 +2,15 @@
 use mathlib.Core.Path.{_≡_, sym, ap, _∙_}
 use mathlib.Core.List.{List}
 use Prim.Native.Nat.{ℕ}
+use native.Mathlib.Omega.{arith}
 use borrow.Author.Needs.{needs}
-use Rattle.lists.proofs.Questions.{refuses, accepts}
+use Rattle.lists.proofs.Questions.{refuses, accepts, sum-hours}
 use Rattle.sharing.specs.Sharing.{share}
 use Rattle.transfer.specs.Transfer.{transfer}
 use Rattle.transfer.specs.Calls.{noTable, transferNumber, transferCall}
 use Rattle.transfer.specs.declared.Table.{Table}
 use Rattle.transfer.specs.declared.Transferred.{Transferred}
-use Rattle.transfer.proofs.Asked.{transferable, small}
+use Rattle.transfer.proofs.Asked.{transferable}
 use Rattle.transfer.proofs.transfer.Statement.{statement}
 use Rattle.transfer.proofs.transfer.Tie as tie
 
@@ -32,7 +33,7 @@ transfer-step-requires : tie.Need-transfer-step-requires
 transfer-step-requires c κs =
     let asked = c .before in
     let t = transferable _ _ (sym (asked .transfer-number .ensures) ∙ c .if1 .left) in
-    (small _ (asked .before .good .0 .1 .0 .1) (t .leftHourly), t .enough)
+    (omega (arith, sum-hours _ (omega (arith, asked .before .good .0 .1 .0 .1)) (t .leftHourly)), t .enough)
 
 returns-2 : tie.Need-returns-2
 returns-2 c =

@@ -5,9 +5,9 @@ use Prim.Native.Nat.{ℕ, _<_}
 use native.Mathlib.Omega.{arith}
 use borrow.Author.Tests.{lt-leb}
 use Rattle.lists.specs.Lists.{sum, most, atMost}
-use Rattle.lists.proofs.Questions.{asks, granted, no, and-first, and-second}
+use Rattle.lists.proofs.Questions.{asks, granted, sum-hours, no, and-first, and-second}
 use Rattle.transfer.specs.Calls.{apart, transferNumber}
-use Rattle.transfer.proofs.Asked.{small, is-transferable}
+use Rattle.transfer.proofs.Asked.{is-transferable}
 use borrow.Author.Needs.{needs}
 use Rattle.transfer.proofs.transfer_number.Statement.{statement}
 use Rattle.transfer.proofs.transfer_number.Tie as tie
@@ -40,8 +40,8 @@ returns-5 c =
     let start = c .before .before .before .before .before .before .before .before .before .before .before .before .before in
     let few = granted _ _ (c .before .before .before .before .before .before .before .before .before .before .before .at-most .ensures) (c .before .before .before .before .before .before .before .before .before .before .if1 .left) in
     let low = granted _ _ (c .before .before .before .before .before .before .before .before .at-most2 .ensures) (c .before .before .before .before .before .before .before .if2 .left) in
-    let a = small _ (start .good .0 .1 .0 .1) few in
-    let b = small _ (start .good .1 .0 .1 .0 .1) low in
+    let a = sum-hours _ (omega (arith, start .good .0 .1 .0 .1)) few in
+    let b = sum-hours _ (omega (arith, start .good .1 .0 .1 .0 .1)) low in
     is-transferable _ _ (record {
       leftHourly = few;
       needHourly = low;
@@ -59,10 +59,10 @@ transfer-number-spec =
     (λ c. search needs)  -- slice-aggregate-at-most-2
     (λ c κs. search needs)  -- at-most-requires-2
     returns-2
-    (λ c. search needs)  -- slice-aggregate-weights-total
-    (λ c κs. search needs)  -- weights-total-requires
-    (λ c. search needs)  -- slice-aggregate-weights-total-2
-    (λ c κs. search needs)  -- weights-total-requires-2
+    (λ c. search needs)  -- slice-aggregate-sum-of
+    (λ c κs. search needs)  -- sum-of-requires
+    (λ c. search needs)  -- slice-aggregate-sum-of-2
+    (λ c κs. search needs)  -- sum-of-requires-2
     returns-3
     (λ c κs. search needs)  -- are-apart-requires
     returns-4

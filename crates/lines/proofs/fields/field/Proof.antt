@@ -89,11 +89,8 @@ module _ {M : Type 1} (𝓤 : URA M) (H : Heap 𝓤) (A : Atoms 𝓤) (W : Given
   abbrev to : Number 𝓤 H A mem run .Ghost
   to = (((κ, tt), (q, tt), tt, (s, (n, tt)), at), tt)
 
-  goes-c : ent 𝓤 (⋆ 𝓤 H A (‵ (flft κ q) ∷ ‵ (Own s v) ∷ [])) (Number 𝓤 H A mem run .pre to)
-  goes-c = qed W (‵ (flft κ q) ∷ ‵ (Own s v) ∷ []) ∵ nothing ! $ move ! (1 ∷ 0 ∷ []) $ join ! $ nothing ! $ owned ! u64 (Is u64) (uint-makes 𝓤 H A W w64) n _ (refl, n-fits) $ fjoin ! $ move ! (2 ∷ 0 ∷ []) $ fjoin ! $ move ! (1 ∷ 0 ∷ []) $ join ! $ frame ! $ done !
-
-  goes-g : ent 𝓤 (⋆ 𝓤 H A (‵ (flft κ q) ∷ ‵ (Own s v) ∷ [])) (Bytes 𝓤 H A mem run .pre to)
-  goes-g = qed W (‵ (flft κ q) ∷ ‵ (Own s v) ∷ []) ∵ nothing ! $ move ! (1 ∷ 0 ∷ []) $ join ! $ nothing ! $ owned ! u64 (Is u64) (uint-makes 𝓤 H A W w64) n _ (refl, n-fits) $ fjoin ! $ move ! (2 ∷ 0 ∷ []) $ fjoin ! $ move ! (1 ∷ 0 ∷ []) $ join ! $ frame ! $ done !
+  goes : ent 𝓤 (⋆ 𝓤 H A (‵ (flft κ q) ∷ ‵ (Own s v) ∷ [])) (Number 𝓤 H A mem run .pre to)
+  goes = qed W (‵ (flft κ q) ∷ ‵ (Own s v) ∷ []) ∵ nothing ! $ move ! (1 ∷ 0 ∷ []) $ join ! $ nothing ! $ owned ! u64 (Is u64) (uint-makes 𝓤 H A W w64) n _ (refl, n-fits) $ fjoin ! $ move ! (2 ∷ 0 ∷ []) $ fjoin ! $ move ! (1 ∷ 0 ∷ []) $ join ! $ frame ! $ done !
 
   said-c : (m : ℕ) → ent 𝓤 (ensured 𝓤 H A c.ended (c.clauses 𝓤 H A mem run) (κ, tt) (s, (n, tt)) tt m) (fact 𝓤 (m ≡ fieldNumber (s .now) n))
   said-c m = exE 𝓤 _ (λ ws. snd∗ 𝓤 (sem 𝓤 H A (lasts c.ended (κ, tt) (s, (n, tt)) ws)) (fact 𝓤 (m ≡ fieldNumber (s .now) n)))
@@ -120,13 +117,13 @@ module _ {M : Type 1} (𝓤 : URA M) (H : Heap 𝓤) (A : Atoms 𝓤) (W : Given
         alloc1 ! (λ l₀. alloc1 ! (λ l₁. alloc1 ! (λ l₂. alloc1 ! (λ l₃. alloc1 ! (λ l₄. alloc0 ! $ params1 ! $
         pass1 ! (init ! 6 refl (shr-slice-lawful 𝓤 H A W (named 0) κ u8 .typed s (v ∷ []) p .0)) $ pass1 ! (init ! 4 refl (tt, record { fits = n-fits })) $ pass0 ! $
         move ! (11 ∷ []) $ fsplit ! $ use1 W (‵ (Own s v) ⊛ ‵ (Own s v)) (shr-slice-copy 𝓤 H A W (named 0) κ u8 .twice s (v ∷ [])) $ split ! $ use1 W (‵ (Own s v) ⊛ ‵ (Own s v)) (shr-slice-copy 𝓤 H A W (named 0) κ u8 .twice s (v ∷ [])) $ split ! $
-        move ! (14 ∷ []) $ split ! $ move ! (0 ∷ 2 ∷ []) $ use2 W (raw (Number 𝓤 H A mem run .pre to)) goes-c $
+        move ! (14 ∷ []) $ split ! $ move ! (0 ∷ 2 ∷ []) $ use2 W (raw (Number 𝓤 H A mem run .pre to)) goes $
         -- [what the callee asks; true; Own; Own; n's; _4; …; _3; …; _2; …; _1; …; room for _0; …]
         calls-at ! fm (Number 𝓤 H A mem run) known-c to (and-then ! (load ! (from ! (stop !)) (look ! 11 refl)) (and-then ! (load ! (from ! (stop !)) (look ! 9 refl)) (no-more !))) (λ u.
         use1 W (later (some (λ (m : ℕ). ((‵ (flft κ q) ⊛ ‵ ftrue) ⊛ ‵ (u64 .own m (u ∷ []))) ⊛ raw (ensured 𝓤 H A c.ended (c.clauses 𝓤 H A mem run) (κ, tt) (s, (n, tt)) tt m)))) (id⊢ 𝓤 _) $ await ! tt $ pick ! (λ m.
         split ! $ move ! (1 ∷ []) $ use1 W (raw (fact 𝓤 (m ≡ fieldNumber (s .now) n))) (said-c m) $ heard ! (m ≡ fieldNumber (s .now) n) (λ e₁. split ! $ move ! (1 ∷ []) $ facts ! u64 (Is u64) (shows 𝓤 H A u64) m (u ∷ []) (λ is.
         land ! (from ! (stop !)) (init ! 7 refl (uint-lawful 𝓤 H A W w64 .typed m _ is .0)) $ rewrite ! 7 (λ (z : Val). ‵ (fat fullShare (tyInt w64) l₃ 0 z)) (ap only (is .0)) refl $
-        split ! $ move ! (0 ∷ 3 ∷ []) $ use2 W (raw (Bytes 𝓤 H A mem run .pre to)) goes-g $
+        split ! $ move ! (0 ∷ 3 ∷ []) $ use2 W (raw (Bytes 𝓤 H A mem run .pre to)) goes $
         -- [what the callee asks; true; true; Own; n's; _4; …; _3; …; _2; …; _1; …; room for _0; …]
         calls-at ! fm (Bytes 𝓤 H A mem run) known-g to (and-then ! (load ! (from ! (stop !)) (look ! 11 refl)) (and-then ! (load ! (from ! (stop !)) (look ! 9 refl)) (no-more !))) (λ w.
         use1 W (later (some (λ (r : RefT (List ℕ)). ((‵ (flft κ q) ⊛ ‵ ftrue) ⊛ ‵ (Own r w)) ⊛ raw (ensured 𝓤 H A g.ended (g.clauses 𝓤 H A mem run) (κ, tt) (s, (n, tt)) tt r)))) (id⊢ 𝓤 _) $ await ! tt $ pick ! (λ r.

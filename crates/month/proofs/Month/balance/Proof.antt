@@ -24,13 +24,13 @@ column-sums-requires c κs =
     let b = balance _ _ _ (c .before .balance-number .ensures) (c .if1 .left) in
     (omega arith, bounded _ (b .inside) .allotted)
 
-net-sum-requires : tie.Need-net-sum-requires
-net-sum-requires c κs =
+account-sum-requires : tie.Need-account-sum-requires
+account-sum-requires c κs =
     let b = balance _ _ _ (c .before .before .balance-number .ensures) (c .before .if1 .left) in
     summable _ (b .inside) (omega arith)
 
-money-sum-requires : tie.Need-money-sum-requires
-money-sum-requires c κs =
+account-sum-requires-2 : tie.Need-account-sum-requires-2
+account-sum-requires-2 c κs =
     let b = balance _ _ _ (c .before .before .before .balance-number .ensures) (c .before .before .if1 .left) in
     summable _ (b .inside) (omega arith)
 
@@ -43,8 +43,8 @@ sums m l k e z columns net money p q r = accepts k _ _ _ _ e z (cc)
 returns-2 : tie.Need-returns-2
 returns-2 c =
     let asked = c .before .before .before in
-    sums _ _ _ (asked .before .balance-number .ensures) (asked .if1 .left) _ _ _ (c .before .before .column-sums .ensures) (result-is (c .before .net-sum .result) (c .before .net-sum .ok) (c .before .net-sum .ensures))
-    (result-is (c .money-sum .result) (c .money-sum .ok) (c .money-sum .ensures))
+    sums _ _ _ (asked .before .balance-number .ensures) (asked .if1 .left) _ _ _ (c .before .before .column-sums .ensures) (result-is (c .before .account-sum .result) (c .before .account-sum .ok) (c .before .account-sum .ensures))
+    (result-is (c .account-sum2 .result) (c .account-sum2 .ok) (c .account-sum2 .ensures))
 
 pub balance-spec : {M : Type 1} → statement M
 unfolding balanceCall
@@ -54,6 +54,6 @@ balance-spec =
     (λ c κs. search needs)  -- balance-number-requires
     (λ c. search outcomes)  -- returns
     column-sums-requires
-    net-sum-requires
-    money-sum-requires
+    account-sum-requires
+    account-sum-requires-2
     returns-2)

@@ -18,5 +18,5 @@ close-spec =
     (tie.spec
     (λ c κs. search needs)  -- close-number-requires
     (λ c. search outcomes)  -- returns
-    (λ c κs. search needs)  -- at-stage-requires
+    (λ c κs. search needs)  -- closed-requires
     (λ c. search (outcomes, ended)))  -- returns-2

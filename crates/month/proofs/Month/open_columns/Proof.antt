@@ -10,9 +10,8 @@ use Rattle.records.specs.Records.{rowsOf}
 use Rattle.records.proofs.Figures.{length-rows}
 use Rattle.ledger.specs.Ledger.{Ledger, zeros}
 use Rattle.month.specs.declared.Month.{Month}
-use Rattle.month.specs.declared.Stage.the-variants.{Open}
 use Rattle.month.specs.Questions.{openNumber}
-use Rattle.month.specs.Calls.{OpenEnd, openCall}
+use Rattle.month.specs.Calls.{openedMonth, OpenEnd, openCall}
 use Rattle.month.proofs.Asked.{opened}
 use Rattle.month.proofs.Month.open_columns.Statement.{statement}
 use Rattle.month.proofs.Month.open_columns.Tie as tie
@@ -30,7 +29,7 @@ module _ (m : Month) (n : ℕ) (c profile : List ℕ) (t k : ℕ) (l : Ledger) (
   is-open : (a : List ℕ) (b : List ℤ) → a ≡ replicate (length (l .allotted)) 0 → b ≡ replicate (length (l .accounts)) (pos 0)
       → _≡_ {A = OpenEnd}
       (record {
-        answer = record { number = 0; month = record { stage = Open; plants = n; periods = length profile; tariff = t; due = 1 } };
+        answer = record { number = 0; month = openedMonth n (length profile) t };
         ledger = record { allotted = a; accounts = b };
       })
       (openCall m (rowsOf n c) profile t l)
@@ -38,7 +37,7 @@ module _ (m : Month) (n : ℕ) (c profile : List ℕ) (t k : ℕ) (l : Ledger) (
   is-open a b p q =
       accepts k _ _ _ _ e z
       (ap₂ (λ (p : ℕ) (w : Ledger). record {
-        answer = record { number = 0; month = record { stage = Open; plants = p; periods = length profile; tariff = t; due = 1 } };
+        answer = record { number = 0; month = openedMonth p (length profile) t };
         ledger = w;
       })
       (sym (length-rows n c)) (zeroed a b p q))

@@ -1,6 +1,7 @@
 -- `finishing::write_month` meets its contract. Assumes nothing.
 use native.Mathlib.Omega.{arith}
 use borrow.Author.Needs.{needs}
+use Rattle.month.specs.Statement.{statementOf}
 use Rattle.statement.specs.Statement.{roomFor}
 use Rattle.file_lines.specs.State.{Kept, kept, ledgerOf, Counted}
 use Rattle.month_file.proofs.Ends.{some-due, in-limits, closing-stated}
@@ -17,7 +18,7 @@ known : (s : tie.Start) → Counted (s .args .file .month) (s .args .file .count
 known s = s .pre .0 .valid .settling (s .pre .0 .settling) .counted
 
 pub write-month-spec : {M : Type 1} → statement M
-unfolding ledgerOf roomFor
+unfolding ledgerOf roomFor statementOf
 write-month-spec =
     tie.close
     (tie.spec

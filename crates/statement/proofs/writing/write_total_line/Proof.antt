@@ -1,5 +1,5 @@
 -- `writing::write_total_line` meets its contract: part by part, what is left to write. Assumes nothing.
-use mathlib.Core.Path.{_≡_, refl, sym, ap}
+use mathlib.Core.Path.{_≡_, refl, ap}
 use mathlib.Core.List.{List, [], _∷_, _++_}
 use Prim.Native.Nat.{ℕ}
 use native.Mathlib.Omega.{arith}
@@ -21,7 +21,9 @@ total s = (44 ∷ figure (sum (s .args .columns .now))) ++ (10 ∷ [])
 
 -- the sum that was worked
 total-is : (c : tie.After-sum-of) → total (c .before .before .before) ≡ (44 ∷ figure (c .sum-of .result)) ++ (10 ∷ [])
-total-is c = ap (λ (n : ℕ). (44 ∷ figure n) ++ (10 ∷ [])) (sym (c .sum-of .ensures))
+total-is c =
+    let e : sum (c .before .before .before .args .columns .now) ≡ c .sum-of .result = omega (arith, c .sum-of .ensures, c .before .before .before .pre .0) in
+    ap (λ (n : ℕ). (44 ∷ figure n) ++ (10 ∷ [])) e
 
 at-start : (s : tie.Start) → let a = s .args in Rest s (a .at) (a .text .now) (leading 84 (a .settled) (a .plants) (a .columns .now) ++ total s)
 at-start s = left-whole (s .pre .1) (total-line-is _ _ _)

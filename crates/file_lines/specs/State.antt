@@ -7,7 +7,7 @@ use lib.Dec.{eqb}
 use lib.IntN.{ℤ}
 use lib.ListN.{length, take}
 use Rattle.lists.specs.Questions.{outcome}
-use Rattle.records.specs.Records.{rowsOf}
+use Rattle.records.specs.Records.{rowsOf, tablePlaces}
 use Rattle.ledger.specs.Ledger.{Ledger, inBounds}
 use Rattle.lines.specs.Fields.{longest}
 use Rattle.month.specs.declared.Month.{Month}
@@ -57,7 +57,7 @@ isRefused (refuses k n) = true
 
 -- the lent lists are long enough for every month
 pub record Lent (k : Kept) : Type 0 where
-  pub columns : 2560 ≤ length (k .columns)
+  pub columns : tablePlaces ≤ length (k .columns)
   pub profile : 744 ≤ length (k .profile)
   pub allotted : 4 * 512 ≤ length (k .allotted)
   pub accounts : 2 * 512 ≤ length (k .accounts)

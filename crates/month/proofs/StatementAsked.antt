@@ -9,7 +9,7 @@ use lib.ListN.{length}
 use Rattle.lists.proofs.Questions.{asked, parted, limits, yes, no, part-yes, part-no, all-yes, refuses, accepts}
 use Rattle.hour.specs.declared.Plant.{Plant}
 use Rattle.hour.specs.Table.{plantsOf}
-use Rattle.records.specs.Records.{columnOf, rowsOf}
+use Rattle.records.specs.Records.{columnOf, rowsOf, tablePlaces}
 use Rattle.records.proofs.Figures.{length-rows, length-column, columns-rows}
 use Rattle.ledger.specs.Ledger.{Ledger}
 use Rattle.statement.specs.Statement.{statementText, roomFor}
@@ -91,7 +91,7 @@ module _ (m : Month) (plants : List Plant) (l : Ledger) (lent k r : ℕ) (e : k 
   long h = part-yes _ _ k 0 e z (yes _ _ _ _ (le-leb (roomFor (m .plants)) lent (omega (arith, asks))) all-yes)
 
 -- the n rows that columns hold, within limits: their statement is that of the two columns that are shown, and these can be stated
-module _ (settled n : ℕ) (c : List ℕ) (l : Ledger) (long : 2560 ≤ length c) (inside : InLimits settled (rowsOf n c) l) where
+module _ (settled n : ℕ) (c : List ℕ) (l : Ledger) (long : tablePlaces ≤ length c) (inside : InLimits settled (rowsOf n c) l) where
   pub few : n ≤ 512
   few = omega (arith, inside .few, length-rows n c)
 

@@ -12,7 +12,7 @@ ghost use Prim.Native.Nat.{_≤_};
 ghost use lib.ListN.{length};
 ghost use mathlib.Core.List.{List};
 ghost use Rattle.hour.specs.declared.Plant.{Plant};
-ghost use Rattle.records.specs.Records.{rowsOf, Held};
+ghost use Rattle.records.specs.Records.{rowsOf, Held, tablePlaces};
 ghost use Rattle.month.specs.Questions.{openNumber};
 ghost use Rattle.month.specs.Calls.{OpenEnd, openCall};
 
@@ -26,7 +26,7 @@ pub fn open_number(
     allotted: &[u64],
     accounts: &[i64],
 ) -> u64
-    requires { ⌜ 2560 ≤ length (now columns) ⌝ }
+    requires { ⌜ tablePlaces ≤ length (now columns) ⌝ }
     ensures { λ r. ⌜ r ≡ openNumber month (rowsOf n (now (columns .entry))) (now (profile .entry)) tariff (record { allotted = now (allotted .entry); accounts = now (accounts .entry) }) ⌝ }
 {
     let stage = month.stage;
@@ -51,7 +51,7 @@ impl Month {
         allotted: &mut [u64],
         accounts: &mut [i64],
     ) -> Ended
-        requires { ⌜ 2560 ≤ length (now columns) ⌝ }
+        requires { ⌜ tablePlaces ≤ length (now columns) ⌝ }
         ensures { λ r. ⌜ _≡_ {A = OpenEnd} (record { answer = r; ledger = record { allotted = now (allotted .exit); accounts = now (accounts .exit) } }) (openCall self (rowsOf n (now (columns .entry))) (now (profile .entry)) tariff (record { allotted = now (allotted .entry); accounts = now (accounts .entry) })) ⌝ }
     {
         let no = open_number(self, n, columns, profile, tariff, allotted, accounts);

@@ -19,7 +19,7 @@ ghost use lib.ListN.{length};
 ghost use Rattle.hour.specs.declared.Plant.{Plant};
 ghost use Rattle.hour.specs.Hour.{hourOf};
 ghost use Rattle.hour.specs.Work.{HourWorked};
-ghost use Rattle.records.specs.Records.{rowsOf, Held};
+ghost use Rattle.records.specs.Records.{rowsOf, Held, tablePlaces};
 ghost use Rattle.ledger.specs.Ledger.{inBounds, added};
 ghost use Rattle.ledger.specs.Posting.{Postable, hourFigures};
 ghost use Rattle.month.specs.Questions.{ownNumber, meteredNumber, inputsNumber, boundsNumber};
@@ -82,7 +82,7 @@ pub fn inputs_number(
     allotted: &[u64],
     accounts: &[i64],
 ) -> u64
-    requires { ⌜ 2560 ≤ length (now columns) ⌝ }
+    requires { ⌜ tablePlaces ≤ length (now columns) ⌝ }
     ensures { λ r. ⌜ r ≡ inputsNumber month (rowsOf n (now (columns .entry))) (now (profile .entry)) (now (metered .entry)) lent (record { allotted = now (allotted .entry); accounts = now (accounts .entry) }) ⌝ }
 {
     let no = own_number(month, n as u64, profile.len() as u64);
@@ -220,7 +220,7 @@ impl Month {
         allotted: &mut [u64],
         accounts: &mut [i64],
     ) -> Settled
-        requires { ⌜ 2560 ≤ length (now columns) ⌝ }
+        requires { ⌜ tablePlaces ≤ length (now columns) ⌝ }
         ensures { λ r. ⌜ _≡_ {A = SettleEnd} (record { answer = r; allotment = now (allotment .exit); ledger = record { allotted = now (allotted .exit); accounts = now (accounts .exit) } }) (settleCall self (rowsOf n (now (columns .entry))) (now (profile .entry)) (now (metered .entry)) (now (allotment .entry)) (record { allotted = now (allotted .entry); accounts = now (accounts .entry) })) ⌝ }
     {
         let room = allotment.len();

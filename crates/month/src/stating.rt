@@ -16,7 +16,7 @@ ghost use mathlib.Core.List.{List};
 ghost use Prim.Native.Nat.{_≤_};
 ghost use lib.ListN.{length};
 ghost use Rattle.hour.specs.declared.Plant.{Plant};
-ghost use Rattle.records.specs.Records.{rowsOf, Held};
+ghost use Rattle.records.specs.Records.{rowsOf, Held, tablePlaces};
 ghost use Rattle.statement.specs.Statement.{statementText, roomFor};
 ghost use Rattle.statement.specs.Writing.{Fills};
 ghost use Rattle.statement.specs.Laws.{InLimits};
@@ -53,7 +53,7 @@ pub fn sizing_number(
     allotted: &[u64],
     accounts: &[i64],
 ) -> u64
-    requires { ⌜ 2560 ≤ length (now columns) ⌝ }
+    requires { ⌜ tablePlaces ≤ length (now columns) ⌝ }
     ensures { λ r. ⌜ r ≡ sizingNumber month (rowsOf n (now (columns .entry))) (record { allotted = now (allotted .entry); accounts = now (accounts .entry) }) ⌝ }
 {
     let no = due_number(month, n as u64);
@@ -84,7 +84,7 @@ pub fn statement_number(
     accounts: &[i64],
     lent: u64,
 ) -> u64
-    requires { ⌜ 2560 ≤ length (now columns) ⌝ }
+    requires { ⌜ tablePlaces ≤ length (now columns) ⌝ }
     ensures { λ r. ⌜ r ≡ statementNumber month (rowsOf n (now (columns .entry))) (record { allotted = now (allotted .entry); accounts = now (accounts .entry) }) lent ⌝ }
 {
     let no = sizing_number(month, n, columns, allotted, accounts);
@@ -106,7 +106,7 @@ pub fn write_rows(
     accounts: &[i64],
     text: &mut [u8],
 ) -> usize
-    requires { ⌜ (2560 ≤ length (now columns)) × (roomFor n ≤ length (now text)) ⌝ }
+    requires { ⌜ (tablePlaces ≤ length (now columns)) × (roomFor n ≤ length (now text)) ⌝ }
     requires { ⌜ InLimits settled (rowsOf n (now columns)) (record { allotted = now allotted; accounts = now accounts }) ⌝ }
     ensures { λ r. ⌜ Fills (statementText settled (rowsOf n (now (columns .entry))) (record { allotted = now (allotted .entry); accounts = now (accounts .entry) })) (now (text .entry)) r (now (text .exit)) ⌝ }
 {
@@ -125,7 +125,7 @@ impl Month {
         accounts: &[i64],
         bytes: &mut [u8],
     ) -> Stated
-        requires { ⌜ 2560 ≤ length (now columns) ⌝ }
+        requires { ⌜ tablePlaces ≤ length (now columns) ⌝ }
         ensures { λ r. ⌜ _≡_ {A = StatementEnd} (record { answer = r; bytes = now (bytes .exit) }) (statementCall self (rowsOf n (now (columns .entry))) (record { allotted = now (allotted .entry); accounts = now (accounts .entry) }) (now (bytes .entry))) ⌝ }
     {
         let no = statement_number(self, n, columns, allotted, accounts, bytes.len() as u64);
@@ -153,7 +153,7 @@ impl Month {
         allotted: &[u64],
         accounts: &[i64],
     ) -> Sized
-        requires { ⌜ 2560 ≤ length (now columns) ⌝ }
+        requires { ⌜ tablePlaces ≤ length (now columns) ⌝ }
         ensures { λ r. ⌜ Sizing self (rowsOf n (now (columns .entry))) (record { allotted = now (allotted .entry); accounts = now (accounts .entry) }) r ⌝ }
     {
         let no = sizing_number(self, n, columns, allotted, accounts);

@@ -7,7 +7,7 @@ use lists::in_range;
 ghost use mathlib.Core.Path.{_≡_};
 ghost use Prim.Native.Nat.{_≤_};
 ghost use lib.ListN.{length};
-ghost use Rattle.records.specs.Records.{rowsOf};
+ghost use Rattle.records.specs.Records.{rowsOf, tablePlaces};
 ghost use Rattle.questions.specs.Questions.{plantsInLimits, periodsInLimits, sizesNumber, placed, numbered, rowNumber, rowsNumber, lengthsNumber, ledgerNumber, tablesNumber};
 
 // 2: P in limits?
@@ -79,7 +79,7 @@ pub fn row_number(submarket_before: u64, number_before: u64, plant: Plant) -> u6
 
 // 5 to 8, going down the n rows that the plant table's columns hold.
 pub fn rows_number(n: usize, columns: &[u64]) -> u64
-    requires { ⌜ (n ≤ 512) × (2560 ≤ length (now columns)) ⌝ }
+    requires { ⌜ (n ≤ 512) × (tablePlaces ≤ length (now columns)) ⌝ }
     ensures { λ r. ⌜ r ≡ rowsNumber 0 0 (rowsOf n (now (columns .entry))) ⌝ }
 {
     let mut submarket_before: u64 = 0;
@@ -136,7 +136,7 @@ pub fn tables_number(
     allotted: &[u64],
     accounts: &[i64],
 ) -> u64
-    requires { ⌜ (n ≤ 512) × (2560 ≤ length (now columns)) × (plants ≤ 512) × (length (now profile) ≤ 744) ⌝ }
+    requires { ⌜ (n ≤ 512) × (tablePlaces ≤ length (now columns)) × (plants ≤ 512) × (length (now profile) ≤ 744) ⌝ }
     ensures { λ r. ⌜ r ≡ tablesNumber plants (rowsOf n (now (columns .entry))) (now (profile .entry)) (record { allotted = now (allotted .entry); accounts = now (accounts .entry) }) ⌝ }
 {
     let no = rows_number(n, columns);

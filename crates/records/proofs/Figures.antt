@@ -13,7 +13,7 @@ use Rattle.lists.proofs.Sums.{length-table, getD-table}
 use Rattle.hour.specs.declared.Plant.{Plant}
 use Rattle.hour.specs.Table.{none, plantsOf}
 use Rattle.hour.proofs.Table.{length-plants, plant-at}
-use Rattle.records.specs.Records.{columnOf, rowAt, rowsOf, Held, putRow, putRows}
+use Rattle.records.specs.Records.{columnOf, rowAt, rowsOf, Held, putRow, putRows, tablePlaces}
 use Rattle.records.proofs.Copied.{length-putRow, take-min}
 
 -- a place that is of no column's row i
@@ -34,7 +34,7 @@ row-other c i j p l m d = λ x. record {
 }
 
 -- a figure that a later store does not touch
-module _ (c : List ℕ) (i : ℕ) (p : Plant) (long : 2560 ≤ length c) (l : i < 512) where
+module _ (c : List ℕ) (i : ℕ) (p : Plant) (long : tablePlaces ≤ length c) (l : i < 512) where
   abbrev c₁ : List ℕ
   c₁ = set c i (p .submarket)
 
@@ -102,7 +102,7 @@ unfolding putRows
 kept [] c i m l b = refl
 kept (p ∷ ps) c i m l b = kept ps (putRow c i p) (i + 1) m (omega arith) (omega arith) ∙ row-other c i m p (omega arith) (omega arith) (λ h. omega arith)
 
-written : (ps : List Plant) (c : List ℕ) (i j : ℕ) → j < length ps → 2560 ≤ length c → i + length ps ≤ 512
+written : (ps : List Plant) (c : List ℕ) (i j : ℕ) → j < length ps → tablePlaces ≤ length c → i + length ps ≤ 512
     → rowAt (putRows c i ps) (i + j) ≡ getD ps j none
 unfolding putRows
 written [] c i j l e b = absurd (omega arith)
@@ -112,7 +112,7 @@ written (p ∷ ps) c i (suc j) l e b =
     rw at (written ps (putRow c i p) (i + 1) j (omega arith) (omega (arith, length-putRow c i p)) (omega arith))
 
 -- as many records as there are places for, copied to any columns
-held : (ps : List Plant) (c : List ℕ) → 2560 ≤ length c → Held ps (length ps) (putRows c 0 (take 512 ps))
+held : (ps : List Plant) (c : List ℕ) → tablePlaces ≤ length c → Held ps (length ps) (putRows c 0 (take 512 ps))
 held ps c e = record {
   count = refl;
   rows = λ i l few.
@@ -123,7 +123,7 @@ held ps c e = record {
 }
 
 -- what the copying of m records leaves, m being capped
-pub copied : (ps : List Plant) (c : List ℕ) (m : ℕ) (zs : List ℕ) → 2560 ≤ length c → m ≡ min (length ps) 512 → zs ≡ putRows c 0 (take m ps) → Held ps (length ps) zs
+pub copied : (ps : List Plant) (c : List ℕ) (m : ℕ) (zs : List ℕ) → tablePlaces ≤ length c → m ≡ min (length ps) 512 → zs ≡ putRows c 0 (take m ps) → Held ps (length ps) zs
 copied ps c m zs e capped wrote =
     subst (Held ps (length ps)) (sym (wrote ∙ ap (putRows c 0) (ap (λ (k : ℕ). take k ps) capped ∙ take-min ps 512))) (held ps c e)
 
@@ -155,7 +155,7 @@ held-rows ps n c few h =
     (λ i l. (let inside : i < n = omega (arith, length-rows n c) in row-at n c i inside ∙ h .rows i inside (omega arith)))
 
 -- a row written behind the others
-pub rows-put : (n : ℕ) (c : List ℕ) (p : Plant) → n < 512 → 2560 ≤ length c → rowsOf (n + 1) (putRow c n p) ≡ rowsOf n c ++ (p ∷ [])
+pub rows-put : (n : ℕ) (c : List ℕ) (p : Plant) → n < 512 → tablePlaces ≤ length c → rowsOf (n + 1) (putRow c n p) ≡ rowsOf n c ++ (p ∷ [])
 unfolding rowsOf
 rows-put n c p few long =
     let before : table n (rowAt (putRow c n p)) ≡ table n (rowAt c) =
@@ -166,7 +166,7 @@ rows-put n c p few long =
     ∙ (table-last (rowAt (putRow c n p)) n ∙ (λ x. before x ++ (row-put c n p long few x ∷ [])))
 
 -- the five columns make the table
-module _ (n : ℕ) (c : List ℕ) (e : 2560 ≤ length c) (few : n ≤ 512) where
+module _ (n : ℕ) (c : List ℕ) (e : tablePlaces ≤ length c) (few : n ≤ 512) where
   pub length-column : (k : ℕ) → k < 5 → length (columnOf k n c) ≡ n
   unfolding columnOf
   length-column k s = simp (length-take, length-drop) (omega arith)

@@ -8,6 +8,10 @@ use Rattle.lists.specs.Lists.{table}
 use Rattle.hour.specs.declared.Plant.{Plant}
 use Rattle.hour.specs.Table.{none}
 
+-- the places of the five columns
+abbrev pub tablePlaces : ℕ
+tablePlaces = 5 * 512
+
 -- n figures of column k, counted from 0 in the order of a P line
 unfoldable pub columnOf : ℕ → ℕ → List ℕ → List ℕ
 columnOf k n c = take n (drop (512 * k) c)

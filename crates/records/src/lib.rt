@@ -4,7 +4,7 @@ use lists::PLANTS;
 ghost use mathlib.Core.Path.{_≡_};
 ghost use Prim.Native.Nat.{_<_, _≤_, min};
 ghost use lib.ListN.{length, take};
-ghost use Rattle.records.specs.Records.{columnOf, Held, putRow, putRows, rowAt};
+ghost use Rattle.records.specs.Records.{columnOf, Held, putRow, putRows, rowAt, tablePlaces};
 
 // Where the columns begin, after the submarkets; and the places of all five.
 const NUMBERS: usize = PLANTS;
@@ -19,7 +19,7 @@ pub const COLUMNS: usize = 5 * PLANTS;
 
 // Writes a record to place i of the five columns.
 pub fn put_row(columns: &mut [u64], i: usize, plant: Plant)
-    requires { ⌜ (2560 ≤ length (now columns)) × (i < 512) ⌝ }
+    requires { ⌜ (tablePlaces ≤ length (now columns)) × (i < 512) ⌝ }
     ensures { λ _. ⌜ now (columns .exit) ≡ putRow (now (columns .entry)) i plant ⌝ }
 {
     columns[i] = plant.submarket;
@@ -31,7 +31,7 @@ pub fn put_row(columns: &mut [u64], i: usize, plant: Plant)
 
 // The record at place i of the five columns.
 pub fn row_at(columns: &[u64], i: usize) -> Plant
-    requires { ⌜ (2560 ≤ length (now columns)) × (i < 512) ⌝ }
+    requires { ⌜ (tablePlaces ≤ length (now columns)) × (i < 512) ⌝ }
     ensures { λ r. ⌜ r ≡ rowAt (now (columns .entry)) i ⌝ }
 {
     Plant {
@@ -45,7 +45,7 @@ pub fn row_at(columns: &[u64], i: usize) -> Plant
 
 // Writes the first n records to the five columns.
 pub fn copy_rows(plants: &[Plant], n: usize, columns: &mut [u64])
-    requires { ⌜ (2560 ≤ length (now columns)) × (n ≤ 512) × (n ≤ length (now plants)) ⌝ }
+    requires { ⌜ (tablePlaces ≤ length (now columns)) × (n ≤ 512) × (n ≤ length (now plants)) ⌝ }
     ensures { λ _. ⌜ now (columns .exit) ≡ putRows (now (columns .entry)) 0 (take n (now (plants .entry))) ⌝ }
 {
     let mut i: usize = 0;
@@ -74,7 +74,7 @@ pub fn columns(plants: &[Plant]) -> [u64; COLUMNS]
 
 // The first n figures of column k, counted from 0.
 pub fn column(columns: &[u64], k: usize, n: usize) -> &[u64]
-    requires { ⌜ (2560 ≤ length (now columns)) × (k < 5) × (n ≤ 512) ⌝ }
+    requires { ⌜ (tablePlaces ≤ length (now columns)) × (k < 5) × (n ≤ 512) ⌝ }
     ensures { λ r. ⌜ (now r ≡ columnOf k n (now (columns .entry))) × (length (now r) ≡ n) ⌝ }
 {
     let first = PLANTS * k;

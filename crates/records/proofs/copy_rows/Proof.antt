@@ -45,7 +45,7 @@ use denote.Triple.Walked.{says, needs, Stays, stay-none, stay-none-slice, stay-s
 use denote.Exit.{yes}
 use Rattle.hour.specs.declared.Plant.{Plant}
 use Rattle.hour.specs.Table.{none}
-use Rattle.records.specs.Records.{putRow, putRows}
+use Rattle.records.specs.Records.{putRow, putRows, tablePlaces}
 use Rattle.hour.proofs.Plant as T
 use Rattle.hour.proofs.Plant.Laws as T′
 use Rattle.records.proofs.LentAgain.{LentAgain, lends-again, comes-back}
@@ -85,7 +85,7 @@ abbrev PutRow : {M : Type 1} (𝓤 : URA M) (H : Heap 𝓤) (A : Atoms 𝓤) (me
 PutRow 𝓤 H A mem run = tripleOf 𝓤 H A g.signature (g.spec 𝓤 H A mem run)
 
 module _ {M : Type 1} (𝓤 : URA M) (H : Heap 𝓤) (A : Atoms 𝓤) (W : Given 𝓤 H A) (mem : Memory → SProp 𝓤) (run : Routine → Fun 𝓤) (κ κ′ : Lft) (q q′ : Share) (s : RefT (List Plant)) (n : ℕ) (b o : ℕ) (γ : GName) (xs : List ℕ)
-    (n-fits : n < 2 ^ 64) (many : 2560 ≤ length xs) (few : n ≤ 512) (within : n ≤ length (s .now)) (roomP : Room P (length (s .now))) (roomC : Room u64 (length xs)) where
+    (n-fits : n < 2 ^ 64) (many : tablePlaces ≤ length xs) (few : n ≤ 512) (within : n ≤ length (s .now)) (roomP : Room P (length (s .now))) (roomC : Room u64 (length xs)) where
   abbrev ps : List Plant
   ps = s .now
 
@@ -127,7 +127,7 @@ module _ {M : Type 1} (𝓤 : URA M) (H : Heap 𝓤) (A : Atoms 𝓤) (W : Given
   abbrev to : ℕ → GName → List ℕ → ℕ → Plant → PutRow 𝓤 H A mem run .Ghost
   to ν δ ys i p = (((ν ∷ [], tt), (fullShare, tt), tt, (x δ ys, (i, (p, tt))), (vC ∷ [], (vint w64 i ∷ [], (T′.lowered p ∷ [], tt)))), tt)
 
-  goes : (ν : ℕ) (δ : GName) (ys : List ℕ) (i : ℕ) (p : Plant) → 2560 ≤ length ys → i < 512
+  goes : (ν : ℕ) (δ : GName) (ys : List ℕ) (i : ℕ) (p : Plant) → tablePlaces ≤ length ys → i < 512
       → ent 𝓤 (⋆ 𝓤 H A (‵ (flft (ν ∷ []) fullShare) ∷ ‵ (MutSlice (named 0) (ν ∷ []) u64 .own (x δ ys) (vC ∷ [])) ∷ ‵ (P .own p (T′.lowered p ∷ [])) ∷ [])) (PutRow 𝓤 H A mem run .pre (to ν δ ys i p))
   goes ν δ ys i p many′ small =
       qed W (‵ (flft (ν ∷ []) fullShare) ∷ ‵ (MutSlice (named 0) (ν ∷ []) u64 .own (x δ ys) (vC ∷ [])) ∷ ‵ (P .own p (T′.lowered p ∷ [])) ∷ []) ∵ says ! (many′, small) $ nothing ! $ move ! (1 ∷ 0 ∷ []) $ join ! $ frame ! $

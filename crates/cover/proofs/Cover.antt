@@ -9,6 +9,7 @@ use Rattle.lists.specs.Columns.{_⊖_, _⊓_, Below, joined, inside, within, at
 use Rattle.lists.specs.Lists.{sum, most}
 use Rattle.lists.proofs.Columns.{_!_, length-rowwise, at-⊕, at-⊖, at-⊓, sum-⊖, below-⊖, min-left, min-right, below-⊕, sum-ext, sum-tight, sum-joined, at-map-sum, joined-four, joined-at, at-within, transpose-sum, within-nil, within-joined, Sited, sited-le, totals-sum, totals-ext, totals-is, at-totals, at-joined, getD-map, getD-transpose}
 use Rattle.lists.proofs.Sums.{at-le-sum}
+use Rattle.lists.proofs.Bounds.{within-sum}
 use Rattle.lists.proofs.Questions.{every-all, at-most-all}
 use Rattle.sharing.specs.Laws.{Lawful}
 use Rattle.transfer.specs.Laws.{rowSum, columnSum, Served}
@@ -310,8 +311,8 @@ module _ {rule : Rule} (L : Lawful rule) (subs have want : List ℕ) (four-have 
   transfer-asked limit =
       let a = sum-left in let b = sum-open in
       record {
-        leftHourly = at-most-all left most (λ i. let c = at-le-sum left i in omega arith);
-        needHourly = at-most-all open′ most (λ i. let c = at-le-sum open′ i in omega arith);
+        leftHourly = at-most-all left most (within-sum left most (omega arith) .at);
+        needHourly = at-most-all open′ most (within-sum open′ most (omega arith) .at);
         enough = fit-cols;
         noBoth =
             every-all (λ x. eqb x 0) (left ⊓ open′) 0 (λ j. eq-eqb ((left ⊓ open′) ! j) 0 (

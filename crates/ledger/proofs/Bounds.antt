@@ -3,7 +3,7 @@ use mathlib.Core.Path.{_≡_, ap, subst}
 use mathlib.Core.Bool.{true}
 use mathlib.Core.List.{List}
 use Prim.Native.Nat.{ℕ, zero, suc, _+_, _-_, _*_, _≤_, _<_}
-use native.Mathlib.Nat.{le-of-eq, mul-le-mul-right}
+use native.Mathlib.Nat.{le-of-eq}
 use native.Mathlib.Omega.{arith}
 use lib.IntN.{ℤ, pos, natAbs}
 use lib.ListN.{length, getD, replicate}
@@ -55,8 +55,7 @@ summable l e h = record { short = h; small = bounded l e .accounts }
 
 -- each column sum of a ledger in bounds, of at most 512 plants
 pub column-small : (l : Ledger) → inBounds l ≡ true → length (l .allotted) ≤ 2048 → (s : ℕ) → sum (allottedIn s l) ≤ 2048 * kwhBound
-column-small l e h s =
-    omega (arith, column-within allottedWidth (s - 1) (l .allotted) kwhBound (bounded l e .allotted), mul-le-mul-right kwhBound h)
+column-small l e h s = column-within allottedWidth (s - 1) (l .allotted) kwhBound 2048 (bounded l e .allotted) h
 
 -- zeros are in bounds
 pub zeros-in-bounds : (p : ℕ) → inBounds (zeros p) ≡ true

@@ -103,8 +103,8 @@ column-le w j [] = omega arith
 column-le w zero (x ∷ l) = omega (arith, column-le w (w - 1) l)
 column-le w (suc j) (x ∷ l) = omega (arith, column-le w j l)
 
-pub column-within : (w j : ℕ) (l : List ℕ) (b : ℕ) → Within l b → sum (column w j l) ≤ length l * b
-column-within w j l b h = omega (arith, column-le w j l, sum-bound l b h)
+pub column-within : (w j : ℕ) (l : List ℕ) (b n : ℕ) → Within l b → length l ≤ n → sum (column w j l) ≤ n * b
+column-within w j l b n h few = omega (arith, column-le w j l, sum-bound l b n h few)
 
 -- ---- columns of one length, row by row
 -- each column has n figures
@@ -113,7 +113,7 @@ Even n cs = (j : ℕ) → j < length cs → length (getD cs j []) ≡ n
 
 module _ {A : Type 0} (d : A) where
   -- n rows, of as many figures as there are columns
-  rows-even : (n : ℕ) (c : List A) (cs : List (List A)) → Even n (c ∷ cs) → length (transpose d (c ∷ cs)) ≡ n
+  pub rows-even : (n : ℕ) (c : List A) (cs : List (List A)) → Even n (c ∷ cs) → length (transpose d (c ∷ cs)) ≡ n
   unfolding transpose
   rows-even n c [] e = length-rowwise _∷_ d [] c [] ∙ (let p = e 0 (omega arith) in omega arith)
   rows-even n c (b ∷ cs) e = length-rowwise _∷_ d [] c (transpose d (b ∷ cs)) ∙ (let p = e 0 (omega arith) in let q = rows-even n b cs (λ j h. e (suc j) (omega arith)) in omega arith)

@@ -1,10 +1,9 @@
 -- Parts that are read and fed, one after another. Assumes nothing.
-use mathlib.Core.Path.{_≡_, refl, sym, ap, _∙_, subst}
+use mathlib.Core.Path.{_≡_, refl, ap, _∙_, subst}
 use mathlib.Core.List.{List, [], _∷_, _++_, flatten}
 use Prim.Native.Nat.{ℕ, _≤_}
 use native.Mathlib.Omega.{arith}
-use lib.ListN.{length, take, drop, length-append}
-use lib.Seq.{length-take-le}
+use lib.ListN.{length, drop, length-append}
 use Rattle.statement.specs.Writing.{Fills}
 use Rattle.file_lines.specs.declared.MonthFile.{MonthFile}
 use Rattle.file_lines.specs.File.{settledFile}
@@ -62,6 +61,3 @@ module _ {f₀ : MonthFile} {k₀ : Kept} {line₀ : List ℕ} {f : MonthFile} {
 pub settled-fits : {before : List ℕ} {n : ℕ} {after : List ℕ} → Settled before n after → n ≤ length after
 settled-fits (unread z e) = omega arith
 settled-fits {before} (written parts h) = omega (arith, h .size, ap length (h .text), length-append (settledFile (flatten parts)) (drop (length (settledFile (flatten parts))) before))
-
-pub settled-front : {before : List ℕ} {n : ℕ} {after : List ℕ} → Settled before n after → n ≡ length (take n after)
-settled-front {n = n} {after} h = sym (length-take-le n after (settled-fits h))

@@ -7,6 +7,7 @@ use lib.ListN.{length, getD}
 use Rattle.lists.specs.Lists.{sum}
 use Rattle.lists.specs.Columns.{rowwise, _⊖_, Below, joined, transpose}
 use Rattle.lists.proofs.Sums.{at-le-sum}
+use Rattle.lists.proofs.Rows.{Even, rows-even}
 use Rattle.lists.proofs.Columns.{_!_, four-is, length-rowwise, sum-⊖, below-⊕, sum-ext, at-joined, getD-transpose, transpose-sum}
 use Rattle.sharing.specs.Sharing.{Rule}
 use Rattle.transfer.specs.Transfer.{serve, transfer}
@@ -37,16 +38,17 @@ module _ {rule : Rule} (L : Lawful rule) where
   serve-under ws (t ∷ ts) h =
       below-⊕ (rule t ws) _ ws (L .bounded t ws (omega arith)) (serve-under (ws ⊖ rule t ws) ts (let a = fallen t ws (omega arith) in omega arith))
 
+  serve-even : (n : ℕ) (ws ts : List ℕ) → length ws ≡ n → Even n (serve rule ws ts)
+  unfolding serve
+  serve-even n ws [] e j h = absurd (omega arith)
+  serve-even n ws (t ∷ ts) e zero h = L .sized t ws ∙ e
+  serve-even n ws (t ∷ ts) e (suc j) h =
+      serve-even n (ws ⊖ rule t ws) ts (let a = length-rowwise _-_ 0 0 ws (rule t ws) in let b = L .sized t ws in omega arith) j (omega arith)
+
   -- a table of what n givers have left has n rows
   pub transfer-rows : (ws : List ℕ) (t : ℕ) (ts : List ℕ) → length (transfer rule ws (t ∷ ts)) ≡ length ws
-  unfolding transfer serve transpose
-  transfer-rows ws t [] = let a = length-rowwise _∷_ 0 [] (rule t ws) [] in let b = L .sized t ws in omega arith
-  transfer-rows ws t (u ∷ ts) =
-      let a = length-rowwise _∷_ 0 [] (rule t ws) (transpose 0 (serve rule (ws ⊖ rule t ws) (u ∷ ts))) in
-      let b = transfer-rows (ws ⊖ rule t ws) u ts in
-      let c = length-rowwise _-_ 0 0 ws (rule t ws) in
-      let d = L .sized t ws in
-      omega arith
+  unfolding transfer serve
+  transfer-rows ws t ts = rows-even 0 (length ws) (rule t ws) (serve rule (ws ⊖ rule t ws) ts) (serve-even (length ws) ws (t ∷ ts) refl)
 
   -- the promises of the table
   pub served : (left need : List ℕ) → sum need ≤ sum left → Served rule left need

@@ -53,13 +53,16 @@ own-is : (c : tie.After-own-of) → c .own-of .result ≡ own′ (c .before .bef
 unfolding own
 own-is c = c .own-of .ensures ∙ ap (λ l. have (c .before .before .before .before .before .before) ⊓ l) (c .before .block-sums .ensures)
 
+own-below : (c : tie.After-own-of) → Below (c .own-of .result) (c .before .block-sums .result)
+own-below c = subst (λ l. Below l (c .before .block-sums .result)) (sym (c .own-of .ensures)) (min-right _ (c .before .block-sums .result))
+
 share-blocks-requires : tie.Need-share-blocks-requires
 share-blocks-requires c κs =
     let o = c .before .before .before in
     let s = o .before .before .before .before .before .before in (
       (up s, s .pre .0 .1, s .pre .0 .2),
       (
-        (o .before .block-sums .ensures, (let a = small s in omega arith), subst (λ l. Below l (o .before .block-sums .result)) (sym (o .own-of .ensures)) (min-right (have s) (o .before .block-sums .result))),
+        (o .before .block-sums .ensures, (let a = small s in omega arith), own-below o),
         (four-within (omega arith) (omega arith) (omega arith) (omega arith), room s),
       ),
     )
@@ -90,9 +93,7 @@ less-requires c κs =
     subst (λ l. Below l (have (s d))) (sym (o d .own-of .ensures)) (min-left (have (s d)) (o d .before .block-sums .result))
 
 less-requires-2 : tie.Need-less-requires-2
-less-requires-2 c κs =
-    let d = c .before .before .before .before .before .before .before in
-    subst (λ l. Below l (o d .before .block-sums .result)) (sym (o d .own-of .ensures)) (min-right (have (s d)) (o d .before .block-sums .result))
+less-requires-2 c κs = own-below (o (c .before .before .before .before .before .before .before))
 
 -- what is left, what is still open, and the table
 left-is : (c : tie.After-less) → let d = c .before .before .before .before .before .before .before in c .less .result ≡ have (s d) ⊖ own′ (s d)

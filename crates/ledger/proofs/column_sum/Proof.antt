@@ -1,7 +1,6 @@
 -- `ledger::column_sum` meets its contract: what is summed, with what is left of the column, is the column's sum. Assumes nothing.
 use mathlib.Core.Path.{refl}
 use Prim.Native.Nat.{_-_}
-use native.Mathlib.Nat.{mul-le-mul-right}
 use native.Mathlib.Omega.{arith}
 use borrow.Author.Needs.{needs}
 use lib.ListN.{length, drop}
@@ -22,7 +21,7 @@ add-total : tie.Need-add-total Inv-loop μ-loop
 add-total c =
     let a = c .before .before in
     let s = a .before in
-    omega (arith, adding-le (a .loop .inv) (stride-more _ (s .pre .0) _ _ 0 (c .before .loop-test .taken)), column-within (s .args .width) (s .args .start) (s .args .figures .now) kwhBound (s .pre .3), mul-le-mul-right kwhBound (s .pre .2))
+    omega (arith, adding-le (a .loop .inv) (stride-more _ (s .pre .0) _ _ 0 (c .before .loop-test .taken)), column-within (s .args .width) (s .args .start) (s .args .figures .now) kwhBound _ (s .pre .3) (s .pre .2))
 
 loop-again : tie.Need-loop-again Inv-loop μ-loop
 loop-again c = adding-more (c .before .before .loop .inv) (stride-more _ (c .before .before .before .pre .0) _ _ 0 (c .before .loop-test .taken)) refl

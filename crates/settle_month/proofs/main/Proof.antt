@@ -2,7 +2,8 @@
 use native.Mathlib.Omega.{arith}
 use borrow.Author.Needs.{needs}
 use Rattle.statement.specs.Statement.{roomFor}
-use Rattle.settle_month.proofs.Parts.{settled-fits, settled-front}
+use Rattle.lists.proofs.Parts.{front-count}
+use Rattle.settle_month.proofs.Parts.{settled-fits}
 use Rattle.settle_month.proofs.main.Statement.{statement}
 use Rattle.settle_month.proofs.main.Tie as tie
 
@@ -23,7 +24,7 @@ main-spec =
     (λ c κs. search needs)  -- tell-requires
     (λ c. search needs)  -- returns
     (λ c. omega (arith, settled-fits (c .before .before .before .before .before .before .before .before .settle-input .ensures)))  -- array-share-prefix-text
-    (λ c. settled-front (c .before .before .before .before .before .before .before .before .before .settle-input .ensures))  -- slice-aggregate-write-all
+    (λ c. front-count _ _ (settled-fits (c .before .before .before .before .before .before .before .before .before .settle-input .ensures)))  -- slice-aggregate-write-all
     (λ c κs. search needs)  -- write-all-requires
     (λ c. search needs)  -- slice-aggregate-tell-2
     (λ c κs. search needs)  -- tell-requires-2

@@ -1,4 +1,6 @@
 // Each submarket's rows form one block (document 01): where the blocks start, their sums, and an amount for each shared over its rows.
+#![tactic(auto)]
+
 ghost use Rattle.std.specs.Prelude.{◌≡◌, ◌++◌, ◌+◌, ◌*◌, ◌^◌, ◌≤◌, ◌<◌, length, take, drop, get_or};
 ghost use Rattle.lists.specs.Lists.{sum, Within};
 ghost use Rattle.lists.specs.Columns.{◌⊖◌, Below, totals};

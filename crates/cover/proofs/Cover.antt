@@ -224,7 +224,7 @@ module _ {rule : Rule} (L : Lawful rule) (subs have want : List ℕ) (four-have 
       ∙ sum_ext (map (λ c. sum (within s subs c)) (got rule subs have want)) (map (λ r. at s r 0) (table rule subs have want))
       (λ g.
       get_or-map_to (λ c. sum (within s subs c)) [] (within-nil s subs) (got rule subs have want) g
-      ∙ got-adds g s l h ∙ sym (ListN.get_or-map_to (λ r. at s r 0) (table rule subs have want) g []))
+      ∙ got-adds g s l h ∙ sym (ListN.get_or-map (λ r. at s r 0) (table rule subs have want) g []))
       ∙ joined_at (table rule subs have want) (s - 1) ∙ sent_is (s - 1) ∙ sym (still_open (s - 1)) ∙ at_totals subs still s l h
 
   got-sum : sum (joined (got rule subs have want)) ≡ sum still

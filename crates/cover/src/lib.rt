@@ -1,4 +1,6 @@
 // Steps 4 to 6 of an hour, and step 7 again: what four submarkets have meets what the plants want.
+#![tactic(auto)]
+
 ghost use Rattle.std.specs.Prelude.{◌≡◌, ◌-◌, ◌*◌, ◌^◌, ◌≤◌, ◌<◌, length};
 ghost use Rattle.lists.specs.Lists.{sum, most, Within};
 ghost use Rattle.lists.specs.Columns.{◌⊕◌, ◌⊖◌, ◌⊓◌, Below, four, by_row, totals};
@@ -58,7 +60,7 @@ fn rest_of(left: [u64; 4], table: [[u64; 4]; 4]) -> [u64; 4]
 }
 
 // What steps 4 to 6 answer: the transfer table, and what is left to each submarket afterwards.
-#[derive(Drop)]
+#[derive(Clone, Copy)]
 pub struct Met {
     pub table: transfer::Table,
     pub rest: [u64; 4],

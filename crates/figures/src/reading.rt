@@ -4,7 +4,7 @@ ghost use Rattle.lists.specs.Lists.{every};
 ghost use Rattle.figures.specs.Figures.{is_digit, leading_zero, is_figure, ReadAs};
 
 // A field as read: whether it is a figure, and if so which.
-#[derive(Drop)]
+#[derive(Clone, Copy)]
 pub struct FieldRead {
     pub good: bool,
     pub value: u64,

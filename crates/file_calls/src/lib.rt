@@ -1,4 +1,6 @@
 // Feed and finish for any caller: what they need is decided at run time.
+#![tactic(auto)]
+
 ghost use Rattle.file_lines.specs.State.{kept, Lent, Gathering, Counted, Settling, Valid};
 ghost use Rattle.month_file.specs.Run.{place};
 ghost use Rattle.file_calls.specs.Checking.{Decides, FileNumber, FedAny, FinishNumber, FinishedAny};
@@ -154,7 +156,7 @@ fn file_number(
 }
 
 // What `feed_any` answers: the number, and the state handed back.
-#[derive(Drop)]
+#[derive(Clone, Copy)]
 pub struct FeedAnswer {
     pub number: u64,
     pub file: MonthFile,
@@ -207,7 +209,7 @@ fn finish_number(
 
 // What `finish_any` answers, and C as it is: the number, and how many bytes were written.
 #[repr(C)]
-#[derive(Drop)]
+#[derive(Clone, Copy)]
 pub struct FinishAnswer {
     pub number: u64,
     pub length: u64,

@@ -1,4 +1,6 @@
 // One line of the month file (document 01, 'The file and its statement'): read, in turn, and kept or settled. What is kept lies in lent lists.
+#![tactic(auto)]
+
 ghost use Rattle.std.specs.Prelude.{◌≡◌, ◌<◌};
 ghost use Rattle.file_lines.specs.State.{at_stage, at_refusal, at_call};
 
@@ -12,7 +14,7 @@ pub mod taking;
 mod turns;
 
 // How far the file has come. Stages: 0 the first line is due, 1 P and H lines, 2 G lines, 3 refused.
-#[derive(Drop)]
+#[derive(Clone, Copy)]
 pub struct MonthFile {
     pub stage: u64,
     // bytes of the line that has begun

@@ -1,4 +1,6 @@
 // One hour (document 01, 'One hour', steps 1 to 8).
+#![tactic(auto)]
+
 ghost use Rattle.std.specs.Prelude.{◌≡◌, length};
 ghost use Rattle.hour.specs.Hour.{hour_of};
 ghost use Rattle.hour.specs.Table.{plants_of};
@@ -9,7 +11,7 @@ use transfer::Table;
 
 // A plant record: monthly guarantee Q in kWh, loss and availability factors in millionths.
 #[repr(C)]
-#[derive(Drop)]
+#[derive(Clone, Copy)]
 pub struct Plant {
     pub submarket: u64,
     pub number: u64,
@@ -19,7 +21,7 @@ pub struct Plant {
 }
 
 // What an hour answers: secondary energy Z, the sum A of the guarantees, and both transfer tables.
-#[derive(Drop)]
+#[derive(Clone, Copy)]
 pub struct Worked {
     pub secondary: u64,
     pub guarantees: u64,

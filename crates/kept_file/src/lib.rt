@@ -1,4 +1,6 @@
 // The month file's state as a C program keeps it, and its calls. The state holds a month, so it crosses with the month's stage as a number too.
+#![tactic(auto)]
+
 ghost use Rattle.std.specs.Prelude.{◌≡◌};
 ghost use Rattle.file_lines.specs.State.{kept, at_start};
 ghost use Rattle.month_file.specs.Run.{place};
@@ -11,7 +13,7 @@ use kept_month::{KeptMonth, kept_of, month_of};
 
 // How far a month file has come, as the caller keeps it.
 #[repr(C)]
-#[derive(Drop)]
+#[derive(Clone, Copy)]
 pub struct KeptFile {
     pub stage: u64,
     pub length: u64,
@@ -27,7 +29,7 @@ pub struct KeptFile {
 
 // What feed answers: the number, and the state handed back.
 #[repr(C)]
-#[derive(Drop)]
+#[derive(Clone, Copy)]
 pub struct KeptFed {
     pub number: u64,
     pub file: KeptFile,

@@ -1,4 +1,6 @@
 // The month as a C program keeps it, and its calls. A month with an enum cannot cross: C keeps one whose stage is a number.
+#![tactic(auto)]
+
 ghost use Rattle.std.specs.Prelude.{◌≡◌};
 ghost use Rattle.kept_month.specs.Months.{stage_of, stage_number, month_of, kept_of, handed_back, ended_kept, settled_kept, close_kept, balance_kept, stated_kept, sized_kept};
 
@@ -7,7 +9,7 @@ use transfer::Table;
 
 // A month as the caller keeps it. Stage: 0 blank, 1 open, 2 closed; any other number is read as blank.
 #[repr(C)]
-#[derive(Drop)]
+#[derive(Clone, Copy)]
 pub struct KeptMonth {
     pub stage: u64,
     pub plants: u64,
@@ -18,7 +20,7 @@ pub struct KeptMonth {
 
 // What open and close answer: the number, and the month handed back.
 #[repr(C)]
-#[derive(Drop)]
+#[derive(Clone, Copy)]
 pub struct KeptEnd {
     pub number: u64,
     pub month: KeptMonth,
@@ -26,7 +28,7 @@ pub struct KeptEnd {
 
 // What settle answers: the number, the month handed back, Z, A and both tables.
 #[repr(C)]
-#[derive(Drop)]
+#[derive(Clone, Copy)]
 pub struct KeptSettle {
     pub number: u64,
     pub month: KeptMonth,
@@ -38,7 +40,7 @@ pub struct KeptSettle {
 
 // What balance answers: the number, the month handed back, the four column sums, the sum of nets and the sum of money.
 #[repr(C)]
-#[derive(Drop)]
+#[derive(Clone, Copy)]
 pub struct KeptBalance {
     pub number: u64,
     pub month: KeptMonth,
@@ -49,7 +51,7 @@ pub struct KeptBalance {
 
 // What statement answers: the number, the month handed back, and the statement's length in bytes.
 #[repr(C)]
-#[derive(Drop)]
+#[derive(Clone, Copy)]
 pub struct KeptStated {
     pub number: u64,
     pub month: KeptMonth,
@@ -58,7 +60,7 @@ pub struct KeptStated {
 
 // What statement_size answers: the number, the month handed back, and a size in bytes that the statement does not pass.
 #[repr(C)]
-#[derive(Drop)]
+#[derive(Clone, Copy)]
 pub struct KeptSized {
     pub number: u64,
     pub month: KeptMonth,

@@ -1,4 +1,6 @@
 // The ledger (document 01, 'Plants, profile, ledger'): bounds, posting, columns and their sums.
+#![tactic(auto)]
+
 ghost use Rattle.std.specs.Prelude.{◌≡◌, ◌-◌, ◌*◌, ◌^◌, ◌≤◌, ◌<◌, pos, length, replicate};
 ghost use Rattle.lists.specs.Lists.{Within, at_most, every, sum, sumℤ};
 ghost use Rattle.lists.specs.Columns.{◌⊕◌, ◌⊕ℤ◌, column, four};

@@ -76,7 +76,7 @@ fn field_bytes(line: &[u8], index: u64) -> &[u8]
     field_at(line, start)
 }
 
-#[derive(Drop)]
+#[derive(Clone, Copy)]
 pub struct FieldPart<'a> {
     pub number: u64,
     pub bytes: &'a [u8],

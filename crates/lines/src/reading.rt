@@ -10,7 +10,7 @@ use lists::copy_into;
 
 // What reading answers. C reads it as it stands.
 #[repr(C)]
-#[derive(Drop)]
+#[derive(Clone, Copy)]
 pub struct Line {
     pub number: u64,
     pub start: u64,
@@ -78,7 +78,7 @@ fn count_fits(start: u64, count: usize) -> bool
 }
 
 // Fields as read: how many there are, and whether each is a figure.
-#[derive(Drop)]
+#[derive(Clone, Copy)]
 struct FieldsRead {
     count: usize,
     good: bool,

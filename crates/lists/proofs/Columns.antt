@@ -67,7 +67,7 @@ rowwise-nothing f unit xs ps l z =
 
 -- of a mapped list, with the default's image past the end
 pub get_or-map_to : {A B : Type 0} (f : A → B) (a : A) {b : B} → f a ≡ b → (xs : List A) (i : ℕ) → get_or (map f xs) i b ≡ f (get_or xs i a)
-get_or-map_to f a e xs i = subst (λ b. get_or (map f xs) i b ≡ f (get_or xs i a)) e (ListN.get_or-map_to f xs i a)
+get_or-map_to f a e xs i = subst (λ b. get_or (map f xs) i b ≡ f (get_or xs i a)) e (ListN.get_or-map f xs i a)
 
 module _ (xs ys : List ℕ) (i : ℕ) where
   pub at-⊕ : (xs ⊕ ys) ! i ≡ xs ! i + ys ! i
@@ -140,7 +140,7 @@ sum-joined (c ∷ cs) = let h = sum-joined cs in let k = sum-⊕ c (joined cs) i
 
 pub at-map-sum : (cs : List (List ℕ)) (i : ℕ) → map sum cs ! i ≡ sum (get_or cs i [])
 unfolding sum
-at-map-sum cs i = ListN.get_or-map_to sum cs i []
+at-map-sum cs i = ListN.get_or-map sum cs i []
 
 pub joined_at : (cs : List (List ℕ)) (i : ℕ) → sum (map (λ c. c ! i) cs) ≡ joined cs ! i
 unfolding joined sum

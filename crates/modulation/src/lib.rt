@@ -1,4 +1,6 @@
 // Steps 1 and 2 of an hour (document 01, 'One hour'): the guarantee Q shared over the profile, then losses and availability.
+#![tactic(auto)]
+
 ghost use Rattle.std.specs.Prelude.{◌≡◌, ◌^◌, ◌≤◌, ◌<◌, length};
 ghost use Rattle.lists.specs.Lists.{sum, table, Within};
 ghost use Rattle.modulation.specs.Guarantee.{reduced_by, guarantee_in};
@@ -9,7 +11,7 @@ use crate::ratio::Ratio;
 mod ratio;
 
 // What step 1 takes from the profile for period k: the running totals C(k − 1) and Ck, and the whole W.
-#[derive(Drop)]
+#[derive(Clone, Copy)]
 pub struct Modulation {
     pub before: u64,
     pub upto: u64,

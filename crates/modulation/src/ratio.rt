@@ -3,7 +3,7 @@ ghost use Rattle.std.specs.Prelude.{◌≡◌, ◌*◌, ◌/◌, ◌^◌, ◌≤
 ghost use Rattle.modulation.specs.Ratio.{Prepared};
 
 // part / whole, with its first 20 binary digits, the 42 digits after them, and the first 42.
-#[derive(Drop)]
+#[derive(Clone, Copy)]
 pub struct Ratio {
     pub part: u64,
     pub whole: u64,

@@ -1,4 +1,6 @@
 // The month and its calls (document 01, 'Calls' and 'The questions').
+#![tactic(auto)]
+
 use transfer::Table;
 
 pub mod balance;
@@ -9,7 +11,7 @@ pub mod stages;
 pub mod stating;
 
 // A month is blank, open or closed.
-#[derive(Drop)]
+#[derive(Clone, Copy)]
 pub enum Stage {
     Blank,
     Open,
@@ -17,7 +19,7 @@ pub enum Stage {
 }
 
 // The month: P plants, H periods, the tariff TEO and the period due.
-#[derive(Drop)]
+#[derive(Clone, Copy)]
 pub struct Month {
     pub stage: Stage,
     pub plants: u64,
@@ -27,14 +29,14 @@ pub struct Month {
 }
 
 // What open and close answer: the number, and the month handed back.
-#[derive(Drop)]
+#[derive(Clone, Copy)]
 pub struct Ended {
     pub number: u64,
     pub month: Month,
 }
 
 // What settle answers: its number, the month handed back, Z, A and both tables.
-#[derive(Drop)]
+#[derive(Clone, Copy)]
 pub struct Settled {
     pub number: u64,
     pub month: Month,
@@ -45,7 +47,7 @@ pub struct Settled {
 }
 
 // What balance answers: its number, the month handed back, the four column sums, the sum of nets and the sum of money.
-#[derive(Drop)]
+#[derive(Clone, Copy)]
 pub struct Balanced {
     pub number: u64,
     pub month: Month,
@@ -55,7 +57,7 @@ pub struct Balanced {
 }
 
 // What the statement call answers: its number, the month handed back, and the statement's length in bytes.
-#[derive(Drop)]
+#[derive(Clone, Copy)]
 pub struct Stated {
     pub number: u64,
     pub month: Month,
@@ -63,7 +65,7 @@ pub struct Stated {
 }
 
 // What the sizing call answers: its number, the month handed back, and a size that the statement does not pass, at most 128P + 128.
-#[derive(Drop)]
+#[derive(Clone, Copy)]
 pub struct Sized {
     pub number: u64,
     pub month: Month,

@@ -9,7 +9,7 @@ use file_lines::MonthFile;
 use file_lines::taking::take_line;
 
 // How far the file and the part have come, and whether the line has come to its byte 10.
-#[derive(Drop)]
+#[derive(Clone, Copy)]
 struct Step {
     file: MonthFile,
     at: usize,

@@ -1,10 +1,12 @@
 // A field of a line by its start and its length: a part of the line cannot cross to C.
+#![tactic(auto)]
+
 ghost use Rattle.std.specs.Prelude.{◌≡◌};
 ghost use Rattle.places.specs.Parts.{field_place};
 
 // What the field call answers to C: the number, and the part of the line by its start and its length.
 #[repr(C)]
-#[derive(Drop)]
+#[derive(Clone, Copy)]
 pub struct FieldPlace {
     pub number: u64,
     pub start: u64,

@@ -1,4 +1,6 @@
 // Questions 2 to 11, and 19 of a ledger at hand, which several calls put (document 01, 'The questions'): each function answers the number of its definition.
+#![tactic(auto)]
+
 ghost use Rattle.std.specs.Prelude.{◌≡◌, ◌≤◌, length};
 ghost use Rattle.records.specs.Records.{rows_of, table_places};
 ghost use Rattle.questions.specs.Questions.{plants_in_limits, periods_in_limits, sizes_number, placed, numbered, row_number, rows_number, lengths_number, ledger_number, tables_number};

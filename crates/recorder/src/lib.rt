@@ -1,5 +1,7 @@
 // The C interface: every public call under one prefix, with the contract of the call that it hands on. include/iolwarch.h
 // declares these functions for C.
+#![tactic(auto)]
+
 ghost use Rattle.std.specs.Prelude.{◌≡◌};
 ghost use Rattle.sharing.specs.Calls.{Shared, sharing_call};
 ghost use Rattle.transfer.specs.Calls.{transfer_call};
@@ -20,7 +22,7 @@ pub extern "C" fn iolwarch_share(total: u64, weights: &[u64], parts: &mut [u64])
 
 // One figure for each of submarkets 1 to 4. C passes no array by value.
 #[repr(C)]
-#[derive(Drop)]
+#[derive(Clone, Copy)]
 pub struct BySubmarket {
     pub kwh: [u64; 4],
 }

@@ -1,4 +1,6 @@
 // The plant table as one lent list of plant records (document 01, 'Plants, profile, ledger'), copied to five columns of 512 places.
+#![tactic(auto)]
+
 ghost use Rattle.std.specs.Prelude.{◌≡◌, ◌<◌, ◌≤◌, min, length, take};
 ghost use Rattle.records.specs.Records.{column_of, Held, put_row, put_rows, row_at, table_places};
 

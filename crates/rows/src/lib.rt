@@ -1,4 +1,6 @@
 // Steps 3, 4, 7 and 8 of an hour (document 01, 'One hour') for each plant: covered guarantees, rights, surpluses, deficits, and nets. All lists have a figure for each plant.
+#![tactic(auto)]
+
 ghost use Rattle.std.specs.Prelude.{◌≡◌, ◌-◌, ◌*◌, ◌^◌, ◌≤◌, ◌<◌, length};
 ghost use Rattle.std.proofs.Math.IntN.{sub_ℕ};
 ghost use Rattle.lists.specs.Lists.{sum, most, Within};

@@ -1,5 +1,7 @@
 // `settle_month`: reads a month file from standard input and writes its statement, or the refusal, to standard output (document 01, 'The file
 // and its statement'). All that it keeps lies in arrays of `main`.
+#![tactic(auto)]
+
 ghost use Rattle.std.specs.Prelude.{◌≤◌, length, take};
 ghost use Rattle.lines.specs.Fields.{longest};
 ghost use Rattle.statement.specs.Statement.{room_for};
@@ -20,7 +22,7 @@ use month_file::finishing::finish;
 use records::COLUMNS;
 
 // What was read: the state, and whether the input came to its end.
-#[derive(Drop)]
+#[derive(Clone, Copy)]
 struct Input {
     file: MonthFile,
     whole: bool,

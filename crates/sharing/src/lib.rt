@@ -1,4 +1,6 @@
 // Sharing (document 01, 'Sharing'): the rule on slices, and the public call.
+#![tactic(auto)]
+
 ghost use Rattle.std.specs.Prelude.{◌≡◌, ◌++◌, ◌^◌, ◌≤◌, ◌<◌, length, drop};
 ghost use Rattle.lists.specs.Lists.{sum};
 ghost use Rattle.sharing.specs.Sharing.{share};

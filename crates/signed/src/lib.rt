@@ -1,5 +1,7 @@
 // Arithmetic on signed figures, each function with its result in ℤ.
 // Bounds are stated on absolute values, which are natural numbers.
+#![tactic(auto)]
+
 ghost use Rattle.std.specs.Prelude.{◌≡◌, ◌+◌, ◌<◌, ◌^◌, pos, nat_abs, ◌+ℤ◌, ◌*ℤ◌, length, get_or, set};
 ghost use Rattle.std.proofs.Math.IntN.{sub_ℕ};
 ghost use Rattle.signed.specs.Figures.{is_within};

@@ -1,4 +1,6 @@
 // The transfer step (document 01, step 5 of 'One hour'): the table of four by four, and the public call.
+#![tactic(auto)]
+
 ghost use Rattle.std.specs.Prelude.{◌≡◌, ◌^◌, ◌≤◌, ◌<◌};
 ghost use Rattle.lists.specs.Lists.{sum};
 ghost use Rattle.lists.specs.Columns.{◌⊖◌, Below};
@@ -11,14 +13,14 @@ use lists::MOST;
 
 // A transfer table: four rows of four, giver by receiver. C reads it and the answer below as they stand.
 #[repr(C)]
-#[derive(Drop)]
+#[derive(Clone, Copy)]
 pub struct Table {
     pub rows: [[u64; 4]; 4],
 }
 
 // The answer of the transfer step: the number, and the table beside it.
 #[repr(C)]
-#[derive(Drop)]
+#[derive(Clone, Copy)]
 pub struct Transferred {
     pub number: u64,
     pub table: Table,

@@ -1,4 +1,6 @@
 // wide::mul_div under a C name, for the benchmark in tests/bench alone: no part of the product.
+#![tactic(auto)]
+
 ghost use Rattle.std.specs.Prelude.{◌≡◌, ◌*◌, ◌/◌, ◌^◌, ◌≤◌, ◌<◌};
 
 #[unsafe(no_mangle)]

@@ -16,8 +16,7 @@ use Rattle.lists.proofs.Parts.{whole-written}
 use Rattle.lists.proofs.Questions.{refuses, accepts}
 use Rattle.sharing.specs.Sharing.{share}
 use Rattle.sharing.specs.Calls.{Shared, sharing_number, sharing_call}
-use Rattle.sharing.proofs.share.Statement.{statement}
-use Rattle.sharing.proofs.share.Tie as tie
+use Rattle.sharing.proofs.share.Goals as goal
 
 module _ (t : ℕ) (ws lent : List ℕ) where
   abbrev Answered : ℕ → List ℕ → Type 0
@@ -54,24 +53,19 @@ module _ (t : ℕ) (ws lent : List ℕ) where
       accepts 0 _ _ _ _ (simp (eq-eqb _ _ same, lt-ltb _ _ small, lt-ltb _ _ below, either)) refl
       (ap (λ l. record { number = 0; parts = l }) (whole-written _ _ lent e (le_of_eq (sym same))))
 
-returns : tie.Need-returns
-returns c = uneven _ _ _ c.if1.true
+pub returns-then-weights-parts : goal.returns-then-weights-parts
+returns-then-weights-parts c = uneven _ _ _ c.if-weights-parts.true
 
-returns-2 : tie.Need-returns-2
-returns-2 c = large_sum _ _ _ (omega arith) (omega arith)
+pub returns-then-w-ge-LIMIT : goal.returns-then-w-ge-LIMIT
+returns-then-w-ge-LIMIT c = large_sum _ _ _ (omega arith) (omega arith)
 
-returns-3 : tie.Need-returns-3
-returns-3 c = large-figure _ _ _ (omega arith) (omega arith) (omega arith)
+pub returns-then-total-ge-LIMIT : goal.returns-then-total-ge-LIMIT
+returns-then-total-ge-LIMIT c = large-figure _ _ _ (omega arith) (omega arith) (omega arith)
 
-returns-4 : tie.Need-returns-4
-returns-4 c = no-weight _ _ _ (omega arith) (omega arith) (omega arith) (omega arith)
+pub returns-then-w-eq0 : goal.returns-then-w-eq0
+returns-then-w-eq0 c = no-weight _ _ _ (omega arith) (omega arith) (omega arith) (omega arith)
 
-returns-5 : tie.Need-returns-5
-returns-5 c =
-    let called = c.before.before in
-    written _ _ _ _ (omega arith) (omega arith) (omega arith)
-    (⊎_elim (λ k. inr (omega arith)) (λ k. inl (omega arith)) called.before.before.if4.branch)
-    called.share-into.ensures
-
-pub share-spec : {M : Type 1} → statement M
-share-spec = tie.close (tie.spec returns (λ c κs. search rules) returns-2 returns-3 returns-4 (λ c κs. search rules) (λ c. search rules) returns-5)
+pub returns : goal.returns
+returns c = written _ _ _ _ (omega arith) (omega arith) (omega arith)
+    (⊎_elim (λ k. inr (omega arith)) (λ k. inl (omega arith)) c.if-total-gt0.branch)
+    c.share_into.ensures

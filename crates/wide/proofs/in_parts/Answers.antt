@@ -4,9 +4,8 @@ use Prim.Native.Nat.{ℕ, ◌+◌, ◌-◌, ◌*◌, ◌/◌, ◌%◌, ◌^◌, 
 use native.Mathlib.Nat.{div-add-mod', mod-lt, mul-le-mul_left, lt_of_mul-lt-mul_right, sub-add_cancel}
 use native.Mathlib.Omega.{arith}
 use lib.Pow.{pow_pos, pow-add}
-use borrow.Author.Rules.{rules}
-use Rattle.wide.proofs.in_parts.Statement.{statement}
-use Rattle.wide.proofs.in_parts.Tie as tie
+use Rattle.wide.proofs.in_parts.Goals as goal
+use Rattle.wide.proofs.in_parts.Goals.{After-upper-2, Start}
 
 -- the high part, where the radix is lift * cut
 unfoldable main : (r d c lift cut : ℕ) → ℕ
@@ -28,7 +27,7 @@ cut_at r d c radix lift cut is-radix pos digit below =
       whole = whole;
     }
 
-known : (c : tie.Start) → let a = c.args in Cut a.rest a.digit a.c (2 ^ 31) (2 ^ (31 - a.cut)) (2 ^ a.cut)
+known : (c : Start) → let a = c.args in Cut a.rest a.digit a.c (2 ^ 31) (2 ^ (31 - a.cut)) (2 ^ a.cut)
 known c =
     let a = c.args in
     let p = c.requires in
@@ -36,48 +35,29 @@ known c =
     = sym (pow-add 2 (31 - a.cut) a.cut) ∙ ap (λ (x : ℕ). 2 ^ x) (sub-add_cancel {n = 31} {m = a.cut} p.0) in
     cut_at a.rest a.digit a.c (2 ^ 31) (2 ^ (31 - a.cut)) (2 ^ a.cut) radix (pow_pos a.cut) p.1 p.2
 
-mul_low : tie.Need-overflow-mul-low
-mul_low c = record { fits = rw c.lower.ensures (known c.before).low }
-
-raised-requires : tie.Need-raised-requires
+is-main : (c : After-upper-2) → let a = c.args in
+    c.raised.result + a.digit * c.upper.result + c.upper-2.result ≡ main a.rest a.digit a.c (2 ^ (31 - a.cut)) (2 ^ a.cut)
 unfolding main
-raised-requires c κs = let k = known c.before in (omega arith, omega arith)
+is-main c = rw (c.upper-2.ensures, c.raised.ensures, c.upper.ensures, c.lower.ensures)
 
-mul-t9 : tie.Need-overflow-mul-t9
+pub overflow_mul-low : goal.overflow_mul-low
+overflow_mul-low c = record { fits = rw c.lower.ensures (known (goal.at.overflow_mul-low c).Start).low }
+
+pub raised-requires : goal.raised-requires
 unfolding main
-mul-t9 c = let k = known c.before.before.before in record { fits = rw c.upper.ensures (omega arith) }
+raised-requires c = let k = known (goal.at.raised-requires c).Start in (omega arith, omega arith)
 
-add-t10 : tie.Need-overflow-add-t10
+pub overflow_mul-result : goal.overflow_mul-result
 unfolding main
-add-t10 c = let k = known c.before.before.before in record { fits = rw (c.before.raised.ensures, c.upper.ensures) (omega arith) }
+overflow_mul-result c = let k = known (goal.at.overflow_mul-result c).Start in record { fits = rw c.upper.ensures (omega arith) }
 
-is-main : (c : tie.After-upper2) → let a = c.before.before.before.before.args in
-    c.before.before.raised.result + a.digit * c.before.upper.result + c.upper2.result ≡ main a.rest a.digit a.c (2 ^ (31 - a.cut)) (2 ^ a.cut)
+pub overflow_add-result : goal.overflow_add-result
 unfolding main
-is-main c = rw (c.upper2.ensures, c.before.before.raised.ensures, c.before.upper.ensures, c.before.before.before.lower.ensures)
+overflow_add-result c = let k = known (goal.at.overflow_add-result c).Start in record { fits = rw (c.raised.ensures, c.upper.ensures) (omega arith) }
 
-add-t12 : tie.Need-overflow-add-t12
-add-t12 c = record { fits = rw (is-main c) (known c.before.before.before.before).fits }
+pub overflow_add-result-2 : goal.overflow_add-result-2
+overflow_add-result-2 c = record { fits = rw (is-main c) (known (goal.at.overflow_add-result-2 c).Start).fits }
 
-returns : tie.Need-returns
-returns c =
-    let b = c.before in
-    let s = b.before.before.before.before in
-    let last = rw b.before.before.before.lower.ensures at c.lower2.ensures in
-    (rw last (mod-lt _ (pow_pos s.args.cut)), rw (is-main b, last) (known s).whole)
-
-pub in-parts-spec : {M : Type 1} → statement M
-in-parts-spec =
-    tie.close
-    (tie.spec
-    (λ c. search rules)
-    mul_low
-    (λ c. search rules)
-    raised-requires
-    (λ c. search rules)
-    mul-t9
-    add-t10
-    (λ c. search rules)
-    add-t12
-    (λ c. search rules)
-    returns)
+pub returns : goal.returns
+returns c = let last = rw c.lower.ensures at c.lower-2.ensures in
+    (rw last (mod-lt _ (pow_pos c.args.cut)), rw (is-main (goal.at.returns c).After-upper-2, last) (known (goal.at.returns c).Start).whole)

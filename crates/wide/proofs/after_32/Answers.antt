@@ -6,14 +6,14 @@ use native.Mathlib.Omega.{arith}
 use lib.Pow.{pow-add, pow_mono}
 use lib.Count.{count_leading_zeros, leading_top}
 use Rattle.wide.specs.Head.{Headed}
-use Rattle.wide.proofs.after_32.Statement.{statement}
-use Rattle.wide.proofs.after_32.Tie as tie
+use Rattle.wide.proofs.after_32.Goals as goal
+use Rattle.wide.proofs.after_32.Goals.{Start}
 
 -- of two powers of 2 the larger has the larger exponent
 exponents : (i j : ℕ) → 2 ^ i < 2 ^ j → i < j
 exponents i j h = lt_of_not-le (λ g. not-le_of_lt h (pow_mono g))
 
-at : (c : tie.Start) → (count_leading_zeros 64 c.args.w ≤ 32) × Headed c.args.w (32 - count_leading_zeros 64 c.args.w)
+at : (c : Start) → (count_leading_zeros 64 c.args.w ≤ 32) × Headed c.args.w (32 - count_leading_zeros 64 c.args.w)
 at c =
     let w = c.args.w in
     let zeros = count_leading_zeros 64 w in
@@ -25,5 +25,8 @@ at c =
     let below : w < 2 ^ 32 * 2 ^ (32 - zeros) = subst (λ (x : ℕ). w < x) (ap (λ (j : ℕ). 2 ^ j) (omega (arith, top.1)) ∙ pow-add 2 32 (32 - zeros)) top.3 in
     (few, record { few = omega (arith, top.1); least = least; below = below; bound = c.requires.1 })
 
-pub after-32-spec : {M : Type 1} → statement M
-after-32-spec = tie.close (tie.spec (λ c. omega (arith, (at c).0)) (λ c. (at c).1))
+pub overflow_sub-result : goal.overflow_sub-result
+overflow_sub-result c = omega (arith, (at c).0)
+
+pub returns : goal.returns
+returns c = (at c).1

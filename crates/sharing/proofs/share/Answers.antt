@@ -8,7 +8,6 @@ use native.Mathlib.Omega.{arith}
 use native.Mathlib.Nat.{le_of_eq}
 use lib.Dec.{eqb, ltb}
 use lib.ListN.{length, drop}
-use borrow.Author.Rules.{rules}
 use borrow.Author.Tests.{eq-eqb, ne_eqb, lt-ltb, le-ltb}
 use Rattle.lists.specs.Lists.{sum}
 use Rattle.lists.specs.Questions.{first_no}
@@ -17,6 +16,7 @@ use Rattle.lists.proofs.Questions.{refuses, accepts}
 use Rattle.sharing.specs.Sharing.{share}
 use Rattle.sharing.specs.Calls.{Shared, sharing_number, sharing_call}
 use Rattle.sharing.proofs.share.Goals as goal
+use Rattle.sharing.proofs.share.Goals.{then-total-gt0+else-w-eq0, else-total-gt0}
 
 module _ (t : ℕ) (ws lent : List ℕ) where
   abbrev Answered : ℕ → List ℕ → Type 0
@@ -67,5 +67,5 @@ returns-then-w-eq0 c = no-weight _ _ _ (omega arith) (omega arith) (omega arith)
 
 pub returns : goal.returns
 returns c = written _ _ _ _ (omega arith) (omega arith) (omega arith)
-    (⊎_elim (λ k. inr (omega arith)) (λ k. inl (omega arith)) c.if-total-gt0.branch)
+    (elim c.if-total-gt0.branch [ then-total-gt0+else-w-eq0 w ↦ inr (omega arith) | else-total-gt0 w ↦ inl (omega arith) ])
     c.share_into.ensures

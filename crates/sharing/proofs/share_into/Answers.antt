@@ -1,12 +1,11 @@
 -- `sharing::share_into` meets its contract. The invariant: c is the running total, before is floor(t × c / w), and the parts of the weights that
 -- are left are still to be written. Assumes nothing.
-use mathlib.Core.Path.{◌≡◌, refl, sym, ◌∙◌}
-use mathlib.Core.List.{◌++◌}
-use Prim.Native.Nat.{◌+◌, ◌-◌, ◌*◌, ◌/◌, ◌≤◌}
+use mathlib.Core.Path.{refl, sym, ◌∙◌}
+use Prim.Native.Nat.{◌+◌, ◌≤◌}
 use native.Mathlib.Omega.{arith}
-use lib.ListN.{length, drop, get_or}
+use lib.ListN.{get_or}
 use Rattle.lists.specs.Lists.{sum}
-use Rattle.lists.proofs.Loops.{loops, Adding, adding, adding_le, adding_next, Filling, filling, filling_more, filled, drop_more, rest_more, rest-none}
+use Rattle.lists.proofs.Loops.{loops, adding, adding_le, adding_next, filling, filling_more, filled, drop_more, rest_more, rest-none}
 use Rattle.sharing.specs.Sharing.{parts, share}
 use Rattle.sharing.proofs.Sharing.{up_to_zero, up_to_mono, parts-cons, parts-nil}
 use Rattle.sharing.proofs.share_into.Goals as goal

@@ -1,12 +1,9 @@
-use mathlib.Core.Path.{◌≡◌, refl, sym, ◌∙◌}
+use mathlib.Core.Path.{◌≡◌}
 use mathlib.Core.List.{◌++◌}
-use Prim.Native.Nat.{◌+◌, ◌-◌, ◌*◌, ◌/◌, ◌≤◌}
-use native.Mathlib.Omega.{arith}
-use lib.ListN.{length, drop, get_or}
-use Rattle.lists.specs.Lists.{sum}
-use Rattle.lists.proofs.Loops.{loops, Adding, adding, adding_le, adding_next, Filling, filling, filling_more, filled, drop_more, rest_more, rest-none}
-use Rattle.sharing.specs.Sharing.{parts, share}
-use Rattle.sharing.proofs.Sharing.{up_to_zero, up_to_mono, parts-cons, parts-nil}
+use Prim.Native.Nat.{◌-◌, ◌*◌, ◌/◌}
+use lib.ListN.{length, drop}
+use Rattle.lists.proofs.Loops.{Adding, Filling}
+use Rattle.sharing.specs.Sharing.{parts}
 use Rattle.sharing.proofs.share_into.Given as goal
 
 abbrev pub invariant-loop-i : goal.invariant-loop-i

@@ -10,7 +10,7 @@ use lib.ListN.{length, get_or, take, drop}
 use lib.Seq.{take_all, drop-drop, get_or-take}
 use borrow.Author.Tests.{eq-eqb, ne_eqb}
 use Rattle.lists.specs.Lists.{sum, Within}
-use Rattle.lists.specs.Columns.{◌⊖◌, Below, at, totals}
+use Rattle.lists.specs.Columns.{◌⊖◌, Below, totals}
 use Rattle.lists.proofs.Loops.{drop_more, at_drop}
 use Rattle.lists.proofs.Columns.{◌!◌, at-⊖, sum-⊖, four-le, cond-le, length-rowwise}
 use Rattle.lists.proofs.Sums.{get_or-table}

@@ -1,0 +1,10 @@
+-- `cover::own_of` meets its contract. Assumes nothing.
+use mathlib.Core.Path.{sym, ◌∙◌}
+use mathlib.Core.List.{[], ◌∷◌}
+use Prim.Native.Nat.{min}
+use Rattle.lists.proofs.Columns.{rowwise-table}
+use Rattle.cover.proofs.own_of.Goals as goal
+
+pub returns : goal.returns
+returns c = (λ i. c.smaller-a.ensures i ∷ c.smaller-b.ensures i ∷ c.smaller-c.ensures i ∷ c.smaller-d.ensures i ∷ [])
+    ∙ sym (rowwise-table min 0 0 4 c.args.have c.args.need c.well_formed.0.1.0.1 c.well_formed.1.0.1.0.1)

@@ -61,7 +61,7 @@ fn column_within(bound: u64, start: usize, accounts: &[i64]) -> bool
 
 // Is every figure inside its bound? (19)
 pub fn in_bounds(allotted: &[u64], accounts: &[i64]) -> bool
-    ensures { result ≡ in_bounds (record { allotted = allotted.entry.now; accounts = accounts.now }) }
+    ensures { result ≡ in_bounds (record { allotted = allotted.now; accounts = accounts.now }) }
 {
     if !lists::at_most(KWH_BOUND, allotted) {
         return false;
@@ -140,7 +140,7 @@ pub fn in_bounds_after(
     tariff: u64,
 ) -> bool
     requires { Postable (record { allotted = allotted.now; accounts = accounts.now }) allotment.now nets.now tariff }
-    ensures { result ≡ in_bounds (added (record { allotted = allotted.entry.now; accounts = accounts.now }) (hour_figures allotment.now nets.now tariff)) }
+    ensures { result ≡ in_bounds (added (record { allotted = allotted.now; accounts = accounts.now }) (hour_figures allotment.now nets.now tariff)) }
 {
     if !at_most_after(KWH_BOUND, allotted, allotment) {
         return false;
@@ -159,9 +159,9 @@ pub fn post(
     nets: &[i64],
     tariff: u64,
 )
-    requires { Postable (record { allotted = allotted.now; accounts = accounts.old }) allotment.now nets.now tariff }
-    ensures allotted { allotted.exit.now ≡ (added (record { allotted = allotted.entry.now; accounts = accounts.old }) (hour_figures allotment.now nets.now tariff)).allotted }
-    ensures accounts { accounts.new ≡ (added (record { allotted = allotted.entry.now; accounts = accounts.old }) (hour_figures allotment.now nets.now tariff)).accounts }
+    requires { Postable (record { allotted = allotted.old; accounts = accounts.old }) allotment.now nets.now tariff }
+    ensures allotted { allotted.new ≡ (added (record { allotted = allotted.old; accounts = accounts.old }) (hour_figures allotment.now nets.now tariff)).allotted }
+    ensures accounts { accounts.new ≡ (added (record { allotted = allotted.old; accounts = accounts.old }) (hour_figures allotment.now nets.now tariff)).accounts }
 {
     add_figures(allotted, allotment);
     add_accounts(accounts, nets, tariff);

@@ -1,5 +1,6 @@
 """The repository as rules.py, once.py, edits.py and frames.py read it, and how they count."""
 import collections
+import functools
 import pathlib
 import re
 
@@ -23,6 +24,13 @@ def counted():
     """Prints the last line, 'N passed, M failed', and answers the exit status."""
     print(f"{count[True]} passed, {count[False]} failed")
     return count[False] > 0
+
+
+@functools.cache
+def listed():
+    """crates.txt: each crate with what it names."""
+    lines = re.sub("#.*", "", (ROOT / "crates.txt").read_text())
+    return {name: named.split() for name, named in re.findall(r"^(\w+)(?: +staticlib)? *:(.*)$", lines, re.M)}
 
 
 def declared(line):

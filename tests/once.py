@@ -1,11 +1,10 @@
 """Holds the crates to two rules: nothing stands that nobody uses, and nothing stands twice.
 
-Used is what is reached by name from what readers and the prover begin with: a contract, the proof of a function, a theorem that
-docs/RULES.md names; and of the code an exported function, `main`, or a call of document 01 for callers in Rattle. A name that a `use`
-line takes is used where its file names it. Twice is a run of six lines that stands in two places, a law that states what another
-states but for the names of its variables, a law that only hands on another, and a record or struct with another's fields. The walks
-by hand over plant records are alike from end to end, so one tool writes them: each of them has to be what tools/outer.py writes. The
-last line is 'N passed, M failed'.
+Used is what is reached by name from what readers and the prover begin with: a contract, an answer to a goal of a function or what a
+`#[tactic(..)]` names, a theorem that docs/RULES.md names; and of the code an exported function, `main`, or a call of document 01 for callers
+in Rattle. A name that a `use` line takes is used where its file names it. Twice is a run of six lines that stands in two places, a law that
+states what another states but for the names of its variables, a law that only hands on another, and a record or struct with another's fields.
+And no function's proof walks the code by hand. The last line is 'N passed, M failed'.
 
 Names are looked up as words: a lemma that has the name of a local variable of its file passes, and so does a function that has the name of a
 method which any crate calls. Whether fields, constructors, structs and constants are used is not held, nor copies of code or proofs with other
@@ -16,18 +15,14 @@ that is cited through a module's name."""
 import collections
 import functools
 import itertools
-import json
-import pathlib
 import re
-import subprocess
 import sys
-import tempfile
 
 from repository import CRATES, MARKS, ROOT, check, counted, declared, functions_of, rows
 
-WORD = re.compile(r"[^\s(){}.;,@\"«»\[\]|]+")
+WORD = re.compile(r"[^\s(){}.;,@\"«»]+")
 # `r.bytes`, `(f x).0.valid`: a field that is taken is no name; `laws.promised` is one, where a `use` line calls a module `laws`.
-TAKEN = re.compile(r"((?<![^\s(){};,\[|])[^\s(){}.;,\[\]|]+|[)\]])((?:\.[^\s(){}.;,\[\]|]+)+)")
+TAKEN = re.compile(r"((?<![^\s(){};,])[^\s(){}.;,]+|\))((?:\.[^\s(){}.;,]+)+)")
 SIX = 6
 # A line that says nothing by itself: `use`, an argument or a lemma on a line of its own; a field that stays as it was, since antt
 # has no update of a record; the frame of a function's proof, and there an answer that is at hand or left to `search`.
@@ -161,7 +156,7 @@ def sources():
 
 def stands(name, words):
     """An operator's parts stand apart."""
-    return name in words or "_" in name and all(part in words for part in name.split("_") if part)
+    return name in words or "◌" in name and all(part in words for part in name.split("◌") if part)
 
 
 def cited(one):
@@ -208,6 +203,8 @@ def laws():
     for path, source in sources().items():
         if path.suffix == ".rt":
             roots += [(path, ""), *source.asked]
+        elif path.name == "Proof.antt":
+            roots.append((path, source.last))
         else:
             roots += [(path, name) for name in source.answers]
     seen = reached(roots, cited)
@@ -266,24 +263,11 @@ def called(body, crate, used):
 # ---- what stands twice
 
 
-def written():
-    """The walks by hand, as tools/outer.py writes them and `rt fmt` lays them out."""
-    with tempfile.TemporaryDirectory() as folder:
-        made = {}
-        for config in sorted((ROOT / "tools").glob("*.json")):
-            read = json.loads(config.read_text())
-            path = pathlib.Path("crates", read["crate"], "proofs", *(part.strip("«»") for part in read["fn"]), "Proof.antt")
-            made[ROOT / path] = folder / path
-            made[ROOT / path].parent.mkdir(parents=True)
-            subprocess.run([sys.executable, ROOT / "tools" / "outer.py", config, folder / path], check=True)
-        pathlib.Path(folder, "crates.txt").touch()
-        subprocess.run(["rt", "fmt"], cwd=folder, check=True)
-        return {path: file.read_text() for path, file in made.items()}
-
-
-def walks(made):
-    for path, text in made.items():
-        yield path.is_file() and path.read_text() == text, f"{place(path, 1)}: not what tools/outer.py writes"
+def walks():
+    """No function's proof walks the code by hand: each has answers to the goals that the prover names, or none."""
+    for path in sources():
+        if path.suffix == ".antt" and not {"specs", "proofs"} & {path.parent.name}:
+            yield path.name in ("Answers.antt", "Invariants.antt"), f"{place(path, 1)}: a proof by hand"
 
 
 def told(path):
@@ -316,9 +300,9 @@ def moved(where, by):
     return tuple((path, at + by) for path, at in where)
 
 
-def twice(left_out):
+def twice():
     """No file says what another place says."""
-    texts = {path: list(told(path)) for path in sources() if path not in left_out}
+    texts = {path: list(told(path)) for path in sources()}
     seen = set()
     for long, where in sorted(runs(texts), reverse=True):
         lines = {(path, at + more) for path, at in where for more in range(long)}
@@ -441,10 +425,7 @@ def records_of(path):
 
 
 def main():
-    made = {}
-    for good, what in itertools.chain(
-        laws(), imports(), functions(), walks(made), twice(made), said("law", laws_of), handed(), said("list of fields", records_of)
-    ):
+    for good, what in itertools.chain(laws(), imports(), functions(), walks(), twice(), said("law", laws_of), handed(), said("list of fields", records_of)):
         check(good, what)
     return counted()
 

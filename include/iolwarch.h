@@ -1,6 +1,6 @@
 /* Iolwarch: the reallocation ledger (MRE) of hydropower plants, in whole kWh.
  *
- * Link with target/staticlib/librecorder.a, which `rt staticlib recorder` writes (x86-64 Linux). It needs memcpy and
+ * Link with crates/recorder/out/librecorder.a, which `rt lib` in crates/recorder writes (x86-64 Linux). It needs memcpy and
  * memset of the C library, and nothing else. The functions keep nothing between calls, allocate nothing, end on every
  * input, and may be called from any thread, by several at once on lists of their own.
  *

@@ -8,7 +8,7 @@ import sys
 
 from repository import ROOT, check, counted
 
-ARCHIVE = ROOT / "target" / "staticlib" / "librecorder.a"
+ARCHIVE = ROOT / "crates" / "recorder" / "out" / "librecorder.a"
 LIBRARY = {"memcpy", "memset"}
 # A frame of many pages: they are touched one by one, down to r11.
 PAGES = re.compile(

@@ -1,11 +1,10 @@
 """Holds the crates to two rules: nothing stands that nobody uses, and nothing stands twice.
 
-Used is what is reached by name from what readers and the prover begin with: a contract, the proof of a function, a theorem that
-docs/RULES.md names; and of the code an exported function, `main`, or a call of document 01 for callers in Rattle. A name that a `use`
-line takes is used where its file names it. Twice is a run of six lines that stands in two places, a law that states what another
-states but for the names of its variables, a law that only hands on another, and a record or struct with another's fields. The walks
-by hand over plant records are alike from end to end, so one tool writes them: each of them has to be what tools/outer.py writes. The
-last line is 'N passed, M failed'.
+Used is what is reached by name from what readers and the prover begin with: a contract, an answer to a goal of a function or what a
+`#[tactic(..)]` names, a theorem that docs/RULES.md names; and of the code an exported function, `main`, or a call of document 01 for callers
+in Rattle. A name that a `use` line takes is used where its file names it. Twice is a run of six lines that stands in two places, a law that
+states what another states but for the names of its variables, a law that only hands on another, and a record or struct with another's fields.
+And no function's proof walks the code by hand. The last line is 'N passed, M failed'.
 
 Names are looked up as words: a lemma that has the name of a local variable of its file passes, and so does a function that has the name of a
 method which any crate calls. Whether fields, constructors, structs and constants are used is not held, nor copies of code or proofs with other
@@ -16,22 +15,20 @@ that is cited through a module's name."""
 import collections
 import functools
 import itertools
-import json
-import pathlib
 import re
-import subprocess
 import sys
-import tempfile
 
 from repository import CRATES, MARKS, ROOT, check, counted, declared, functions_of, rows
 
 WORD = re.compile(r"[^\s(){}.;,@\"«»]+")
+# `r.bytes`, `(f x).0.valid`: a field that is taken is no name; `laws.promised` is one, where a `use` line calls a module `laws`.
+TAKEN = re.compile(r"((?<![^\s(){};,])[^\s(){}.;,]+|\))((?:\.[^\s(){}.;,]+)+)")
 SIX = 6
 # A line that says nothing by itself: `use`, an argument or a lemma on a line of its own; a field that stays as it was, since antt
 # has no update of a record; the frame of a function's proof, and there an answer that is at hand or left to `search`.
 BARE = re.compile(
-    r"(ghost |pub )?use |(pub )?mod |(&mut |&)?\w+(\.\w+)*(\[[^]]*\])?,$|[\w-]+\)*$|(?P<field>\w+) = \w+ \.(?P=field);$"
-    r"|tie\.close|\(tie\.spec|\(λ c( κs)?\. (refl|tt|search [\w-]+|c( \.[\w-]+)+)\)+$"
+    r"(ghost |pub )?use |(pub )?mod |(&mut |&)?\w+(\.\w+)*(\[[^]]*\])?,$|[\w-]+\)*$|(?P<field>\w+) = \w+\.(?P=field);$"
+    r"|(abbrev |pub )*(?P<goal>\S+) : goal\.(?P=goal)$|\S+ (c|_) = (refl|tt|search [\w-]+|omega arith|c(\.[\w-]+)+)$"
 )
 # What document 01 names and nothing in this repository calls: it is for callers in Rattle.
 PUBLIC = {
@@ -59,7 +56,7 @@ def reached(roots, cited):
 
 def home(module):
     """The file of a module of ours, in this crate or from another."""
-    found = re.match(r"Rattle·(\w+)(?:·\w+)?\.(specs|proofs)\.(.+)", module)
+    found = re.match(r"Rattle\.(\w+)\.(specs|proofs)\.(.+)", module)
     return found and CRATES / found[1] / found[2] / (re.sub("[«»]", "", found[3]).replace(".", "/") + ".antt")
 
 
@@ -69,24 +66,38 @@ class Source:
     def __init__(self, path):
         self.names, self.modules = {}, {}
         self.words, self.line, self.fields, self.shows = collections.defaultdict(set), {}, {}, {}
-        self.last = None
+        self.last, self.answers, self.asked = None, [], []
         self.code_words, self.taken = set(), set()
         if path.suffix == ".rt":
-            self.code(re.sub("//.*", "", path.read_text()))
+            self.code(path, re.sub("//.*", "", path.read_text()))
         else:
-            # a field that is taken, `r .bytes`, is no name
-            self.text(re.sub(r"(?<=[\s(])\.[^\s(){};,]+", "", re.sub("--.*", "", path.read_text())))
+            self.text(re.sub("--.*", "", path.read_text()))
 
-    def code(self, text):
+    def code(self, path, text):
+        # a list of what is taken, and a clause, may stand on several lines
+        text = re.sub(r"^((?:ghost |pub )?use [^;]*);", lambda found: " ".join(found[0].split()).replace("{ ", "{").replace(", }", "}"), text, flags=re.M)
+        open_braces = 0
         for line in text.splitlines():
             if line.startswith("ghost use "):
                 self.use(line[6:].rstrip(";"))
-            elif taken := re.match(r"use (?:\w+::)*(\w+);", line):
-                self.taken.add(taken[1])
-            elif contract := re.match(r" *(?:requires|ensures) (.*)", line):
-                self.words[""].update(WORD.findall(contract[1]))
+            elif taken := re.match(r"use (?:\w+::)*(?:(\w+)|{(.*)});", line):
+                self.taken.update([taken[1]] if taken[1] else taken[2].split(", "))
+            elif open_braces or re.match(r" *(?:requires|ensures)\b", line):
+                clause = line if open_braces else re.sub(r" *(?:requires|ensures)(?: \w+)?(?= {|$)", "", line)
+                self.words[""].update(self.words_of(clause))
+                open_braces += clause.count("{") - clause.count("}")
             else:
+                # `using(crate::proofs::File::law)` and `unfolding(..)` cite too
+                if line.lstrip().startswith(("#[tactic", "#![tactic")):
+                    for crate, part, file, name in re.findall(r"(\w+)::(specs|proofs)::((?:\w+::)*\w+)::(\w+)", line):
+                        folder = CRATES / (crate_of(path) if crate == "crate" else crate)
+                        self.asked.append((folder / part / (file.replace("::", "/") + ".antt"), name))
                 self.code_words.update(re.findall(r"\w+", line))
+
+    def words_of(self, line):
+        """The words of a line of antt, with no field that is taken."""
+        plain = TAKEN.sub(lambda found: found[1] + (" " + found[2].split(".")[1] if found[1] in self.modules else ""), line)
+        return WORD.findall(plain)
 
     def text(self, text):
         around, heading = [], False
@@ -101,7 +112,7 @@ class Source:
             if heading or indent == level and line.lstrip().startswith("module "):
                 if not heading:
                     around.append((indent, set()))
-                around[-1][1].update(WORD.findall(line))
+                around[-1][1].update(self.words_of(line))
                 heading = not line.rstrip().endswith("where")
             elif line.startswith("use "):
                 self.use(line)
@@ -119,10 +130,13 @@ class Source:
             self.words[name].update(*(words for _, words in around))
             if shown := re.match(MARKS + r"\S+ : (\w+)$", line):
                 self.shows[name] = shown[1]
+            # what the prover asks for by its name
+            if re.match(MARKS + r"(\S+) : goal\.\1$", line):
+                self.answers.append(name)
         elif name and self.last in self.fields:
             self.fields[self.last].add(name)
         if self.last:
-            self.words[self.last].update(WORD.findall(line))
+            self.words[self.last].update(self.words_of(line))
 
     def use(self, line):
         if some := re.match(r"use (\S+)\.\{(.*)\}$", line):
@@ -130,8 +144,8 @@ class Source:
                 name, _, other = part.partition(" as ")
                 self.names[other or name] = (home(some[1]), name)
         else:
-            module, other = re.match(r"use (\S+) as (\S+)$", line).groups()
-            self.modules[other] = home(module)
+            module, other = re.match(r"use (\S+)(?: as (\S+))?$", line).groups()
+            self.modules[other or module.rpartition(".")[2]] = home(module)
 
 
 @functools.cache
@@ -142,7 +156,7 @@ def sources():
 
 def stands(name, words):
     """An operator's parts stand apart."""
-    return name in words or "_" in name and all(part in words for part in name.split("_") if part)
+    return name in words or "◌" in name and all(part in words for part in name.split("◌") if part)
 
 
 def cited(one):
@@ -188,9 +202,11 @@ def laws():
     roots = list(named())
     for path, source in sources().items():
         if path.suffix == ".rt":
-            roots.append((path, ""))
+            roots += [(path, ""), *source.asked]
         elif path.name == "Proof.antt":
             roots.append((path, source.last))
+        else:
+            roots += [(path, name) for name in source.answers]
     seen = reached(roots, cited)
     for path, source in sources().items():
         for name, line in source.line.items():
@@ -215,7 +231,8 @@ def functions():
     calls, at, roots = {}, {}, set()
     for path in sorted(CRATES.glob("*/src/**/*.rt")):
         crate = crate_of(path)
-        used = {name: of for of, name in re.findall(r"^use (\w+)::(?:\w+::)*(\w+);", path.read_text(), re.M)}
+        uses = re.findall(r"^(?:pub )?use (\w+)::(?:\w+::)*(?:(\w+)|{([^}]*)});", path.read_text(), re.M)
+        used = {name: of for of, one, many in uses for name in ([one] if one else re.findall(r"\w+", many))}
         for name, exported, line, lines in functions_of(path):
             one = (crate, name)
             at.setdefault(one, place(path, line))
@@ -246,24 +263,11 @@ def called(body, crate, used):
 # ---- what stands twice
 
 
-def written():
-    """The walks by hand, as tools/outer.py writes them and `rt fmt` lays them out."""
-    with tempfile.TemporaryDirectory() as folder:
-        made = {}
-        for config in sorted((ROOT / "tools").glob("*.json")):
-            read = json.loads(config.read_text())
-            path = pathlib.Path("crates", read["crate"], "proofs", *(part.strip("«»") for part in read["fn"]), "Proof.antt")
-            made[ROOT / path] = folder / path
-            made[ROOT / path].parent.mkdir(parents=True)
-            subprocess.run([sys.executable, ROOT / "tools" / "outer.py", config, folder / path], check=True)
-        pathlib.Path(folder, "crates.txt").touch()
-        subprocess.run(["rt", "fmt"], cwd=folder, check=True)
-        return {path: file.read_text() for path, file in made.items()}
-
-
-def walks(made):
-    for path, text in made.items():
-        yield path.is_file() and path.read_text() == text, f"{place(path, 1)}: not what tools/outer.py writes"
+def walks():
+    """No function's proof walks the code by hand: each has answers to the goals that the prover names, or none."""
+    for path in sources():
+        if path.suffix == ".antt" and not {"specs", "proofs"} & {path.parent.name}:
+            yield path.name in ("Answers.antt", "Invariants.antt"), f"{place(path, 1)}: a proof by hand"
 
 
 def told(path):
@@ -296,9 +300,9 @@ def moved(where, by):
     return tuple((path, at + by) for path, at in where)
 
 
-def twice(left_out):
+def twice():
     """No file says what another place says."""
-    texts = {path: list(told(path)) for path in sources() if path not in left_out}
+    texts = {path: list(told(path)) for path in sources()}
     seen = set()
     for long, where in sorted(runs(texts), reverse=True):
         lines = {(path, at + more) for path, at in where for more in range(long)}
@@ -421,10 +425,7 @@ def records_of(path):
 
 
 def main():
-    made = written()
-    for good, what in itertools.chain(
-        laws(), imports(), functions(), walks(made), twice(made), said("law", laws_of), handed(), said("list of fields", records_of)
-    ):
+    for good, what in itertools.chain(laws(), imports(), functions(), walks(), twice(), said("law", laws_of), handed(), said("list of fields", records_of)):
         check(good, what)
     return counted()
 

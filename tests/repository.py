@@ -1,5 +1,7 @@
 """The repository as rules.py, once.py, edits.py and frames.py read it, and how they count."""
 import collections
+import functools
+import itertools
 import pathlib
 import re
 
@@ -25,6 +27,13 @@ def counted():
     return count[False] > 0
 
 
+@functools.cache
+def listed():
+    """crates.txt: each crate with what it names."""
+    lines = re.sub("#.*", "", (ROOT / "crates.txt").read_text())
+    return {name: named.split() for name, named in re.findall(r"^(\w+)(?: +staticlib)? *:(.*)$", lines, re.M)}
+
+
 def declared(line):
     """The name that a line of antt declares: a type, a set of lemmas, or what stands before a colon."""
     if found := re.match(MARKS + r"(?:record|data|ruleset) (\S+)", line):
@@ -39,12 +48,17 @@ def declared(line):
     return None
 
 
+def attributes(above):
+    """The attributes that stand right above a line."""
+    return [line.strip() for line in itertools.takewhile(lambda line: line.strip().startswith("#["), reversed(above))]
+
+
 def functions_of(path):
     """The functions of a file of code, each with its lines from `fn` to its `}`; an exported one C can call."""
     lines = path.read_text().splitlines()
     for at, line in enumerate(lines):
         if found := re.match(r"( *)(?:pub(?:\(\w+\))? )?(extern \"C\" )?fn (\w+)", line):
-            exported = bool(found[2]) and lines[at - 1].strip() == "#[no_mangle]"
+            exported = bool(found[2]) and "#[unsafe(no_mangle)]" in attributes(lines[:at])
             yield Function(found[3], exported, at + 1, lines[at : lines.index(found[1] + "}", at) + 1])
 
 

@@ -8,7 +8,7 @@ import functools
 import re
 import sys
 
-from repository import CRATES, ROOT, RULES, check, counted, declared, functions_of, rows
+from repository import CRATES, ROOT, RULES, check, counted, declared, functions_of, listed, rows
 
 
 def text(paths):
@@ -142,7 +142,8 @@ def functions():
     for path in sorted(CRATES.glob("*/src/**/*.rt")):
         for name, _, _, lines in functions_of(path):
             check(len(lines) < 40, f"{path.relative_to(ROOT)}: {name} has {len(lines)} lines")
-            check(sum("while " in line for line in lines) < 2, f"{path.relative_to(ROOT)}: {name} has a second loop")
+            loops = sum(bool(re.match(r"\s*('\w+: )?(while|for|loop)\b", line)) for line in lines)
+            check(loops < 2, f"{path.relative_to(ROOT)}: {name} has a second loop")
 
 
 def documents():
@@ -152,9 +153,9 @@ def documents():
             path = (ROOT if crate == "tests" else CRATES) / crate / rest
             check(path.exists() or any(path.with_suffix(end).is_file() for end in (".antt", ".rt")), f"{name}: no {crate}/{rest}")
     architecture = (ROOT / "docs" / "ARCHITECTURE.md").read_text()
-    for name, named in re.findall(r"^(\w+):(.*)$", (ROOT / "crates.txt").read_text(), re.M):
+    for name, named in listed().items():
         row = re.search(rf"^\| `{name}` \| .* \|(.*)\|$", architecture, re.M)
-        check(row and re.findall(r"`(\w+)`", row[1]) == named.split(), f"ARCHITECTURE.md: the row of {name} is not that of crates.txt")
+        check(row and re.findall(r"`(\w+)`", row[1]) == named, f"ARCHITECTURE.md: the row of {name} is not that of crates.txt")
     readme = (ROOT / "README.md").read_text()
     for crate in sorted(path.name for path in CRATES.iterdir() if path.is_dir()):
         check(f"| `{crate}` |" in readme, f"README's map has no crate {crate}")

@@ -1,7 +1,7 @@
 /* Settles a month file from standard input, in parts of any size and in constant memory:
  *
  *   rt staticlib recorder
- *   cc -Iinclude examples/c/file.c target/staticlib/librecorder.a -o file
+ *   cc -Iinclude examples/c/file.c crates/recorder/out/librecorder.a -o file
  *   ./file < examples/month.mre
  *
  * It prints the statement, or `R,line,number` where the file is refused. All of it is the library's: the order of the

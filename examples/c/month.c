@@ -1,7 +1,7 @@
 /* Settles a month file through the library, line by line and in constant memory:
  *
  *   rt staticlib recorder
- *   cc -Iinclude examples/c/month.c target/staticlib/librecorder.a -o month
+ *   cc -Iinclude examples/c/month.c crates/recorder/out/librecorder.a -o month
  *   ./month < examples/month.mre
  *
  * It prints the statement, or `R,line,number` where the file is refused: `number` is the question that was answered no

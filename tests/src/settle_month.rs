@@ -56,7 +56,7 @@ pub fn root() -> PathBuf {
 }
 
 pub fn program() -> Command {
-    Command::new(root().join("target/bin/settle_month"))
+    Command::new(root().join("crates/settle_month/out/settle_month"))
 }
 
 /// What the program prints for a file.

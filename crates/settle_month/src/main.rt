@@ -5,7 +5,6 @@
 ghost use Rattle.std.specs.Prelude.{◌≤◌, length, take};
 ghost use Rattle.lines.specs.Fields.{longest};
 ghost use Rattle.statement.specs.Statement.{room_for};
-ghost use Rattle.io.specs.Counts.{clamp_len};
 ghost use Rattle.file_lines.specs.State.{kept, Lent, Valid};
 ghost use Rattle.month_file.specs.Machine.{Fed};
 ghost use Rattle.month_file.specs.Run.{place};
@@ -14,12 +13,12 @@ ghost use Rattle.settle_month.specs.Input.{Taken, Settled};
 use file_lines::MonthFile;
 use file_lines::beginning::fresh;
 use ledger::{ACCOUNTS, ALLOTTED};
-use libc::{STDERR_FILENO, STDIN_FILENO, STDOUT_FILENO};
 use lines::fields::LONGEST;
 use lists::{PERIODS, PLANTS};
 use month_file::feeding::feed;
 use month_file::finishing::finish;
 use records::COLUMNS;
+use std::io::{Read, Write};
 
 // What was read: the state, and whether the input came to its end.
 #[derive(Clone, Copy)]
@@ -32,7 +31,7 @@ struct Input {
 fn take_part(
     file: MonthFile,
     part: &[u8],
-    got: isize,
+    got: usize,
     line: &mut [u8],
     columns: &mut [u64],
     profile: &mut [u64],
@@ -41,15 +40,16 @@ fn take_part(
 ) -> MonthFile
     requires longest_in_bounds { longest ≤ length line.old }
     requires valid { Valid file (kept columns.old profile.old allotted.old accounts.old) }
-    ensures { Fed file (kept columns.old profile.old allotted.old accounts.old) line.old (take (clamp_len got (length part.now)) part.now) result (kept columns.new profile.new allotted.new accounts.new) line.new }
+    ensures { Fed file (kept columns.old profile.old allotted.old accounts.old) line.old (take got part.now) result (kept columns.new profile.new allotted.new accounts.new) line.new }
 {
-    let n = io::count(got, part);
+    let n = got.min(part.len());
     feed(file, &part[..n], line, columns, profile, allotted, accounts)
 }
 
-// Feeds what standard input holds, part by part, to its end. No contract says where `whole` is true: `libc::read` alone knows of the end. Nothing
+// Feeds what standard input holds, part by part, to its end. No contract says where `whole` is true: `read` alone knows of the end. Nothing
 // says that an input ends, so the turns are counted down, from a number that no run uses up.
-fn take_input(
+fn take_input<R: Read>(
+    input: &mut R,
     file: MonthFile,
     part: &mut [u8],
     line: &mut [u8],
@@ -65,9 +65,15 @@ fn take_input(
     let mut file = file;
     let mut turns = u64::MAX;
     while turns > 0 {
-        let got = libc::read(STDIN_FILENO, part);
-        if got <= 0 {
-            let whole = got == 0;
+        let got = match input.read(part) {
+            Ok(got) => got,
+            Err(_) => {
+                let whole = false;
+                return Input { file, whole };
+            }
+        };
+        if got == 0 {
+            let whole = true;
             return Input { file, whole };
         }
         file = take_part(file, part, got, line, columns, profile, allotted, accounts);
@@ -79,7 +85,8 @@ fn take_input(
 
 // Settles the file on standard input: what is to be printed stands at the front of the text. Answers its length, or 0 where the input cannot be
 // read to its end.
-fn settle_input(
+fn settle_input<R: Read>(
+    input: &mut R,
     part: &mut [u8],
     line: &mut [u8],
     columns: &mut [u64],
@@ -93,20 +100,20 @@ fn settle_input(
     ensures { Settled text.old result text.new }
 {
     let file = fresh();
-    let input = take_input(file, part, line, columns, profile, allotted, accounts);
-    if !input.whole {
+    let taken = take_input(input, file, part, line, columns, profile, allotted, accounts);
+    if !taken.whole {
         return 0;
     }
-    let end = input.file;
+    let end = taken.file;
     finish(end, line, columns, profile, allotted, accounts, text)
 }
 
 // Writes a line to standard error. Where that fails too, nobody can be told.
-fn tell(line: &[u8]) {
-    io::write_all(STDERR_FILENO, line);
+fn tell(rt: &HostRuntime, line: &[u8]) {
+    let _ = rt.stderr().write_all(line);
 }
 
-fn main() {
+fn main(rt: HostRuntime) {
     let mut part = [0u8; 65536];
     let mut line = [0u8; LONGEST];
     let mut columns = [0u64; COLUMNS];
@@ -115,6 +122,7 @@ fn main() {
     let mut accounts = [0i64; ACCOUNTS * PLANTS];
     let mut text = [0u8; 128 * PLANTS + 128];
     let length = settle_input(
+        &mut rt.stdin(),
         &mut part,
         &mut line,
         &mut columns,
@@ -124,10 +132,10 @@ fn main() {
         &mut text,
     );
     if length == 0 {
-        tell(b"settle-month: standard input cannot be read\n");
+        tell(&rt, b"settle-month: standard input cannot be read\n");
         return;
     }
-    if !io::write_all(STDOUT_FILENO, &text[..length]) {
-        tell(b"settle-month: standard output cannot be written\n");
+    if rt.stdout().write_all(&text[..length]).is_err() {
+        tell(&rt, b"settle-month: standard output cannot be written\n");
     }
 }

@@ -164,7 +164,7 @@ pub fn close_kept(month: KeptMonth) -> KeptEnd
 
 // Month::balance.
 pub fn balance_kept(month: KeptMonth, allotted: &[u64], accounts: &[i64]) -> KeptBalance
-    ensures { result ≡ balance_kept month (record { allotted = allotted.entry.now; accounts = accounts.now }) }
+    ensures { result ≡ balance_kept month (record { allotted = allotted.now; accounts = accounts.now }) }
 {
     let balance = month_of(month).balance(allotted, accounts);
     let columns = balance.columns;

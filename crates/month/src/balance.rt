@@ -10,7 +10,7 @@ use questions::{ledger_number, plants_in_limits};
 
 // 21, then 2 and 11 by the month's own P, and 19 for the ledger at hand.
 pub fn balance_number(month: Month, allotted: &[u64], accounts: &[i64]) -> u64
-    ensures { result ≡ balance_number month (record { allotted = allotted.entry.now; accounts = accounts.now }) }
+    ensures { result ≡ balance_number month (record { allotted = allotted.now; accounts = accounts.now }) }
 {
     let stage = month.stage;
     if is_blank(stage) {
@@ -25,7 +25,7 @@ pub fn balance_number(month: Month, allotted: &[u64], accounts: &[i64]) -> u64
 impl Month {
     // Balance answers the four column sums, the sum of nets and the sum of money.
     pub fn balance(mut self, allotted: &[u64], accounts: &[i64]) -> Balanced
-        ensures { result ≡ balance_call self (record { allotted = allotted.entry.now; accounts = accounts.now }) }
+        ensures { result ≡ balance_call self (record { allotted = allotted.now; accounts = accounts.now }) }
     {
         let number = balance_number(self, allotted, accounts);
         if number != 0 {

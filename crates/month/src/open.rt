@@ -22,7 +22,7 @@ pub fn open_number(
     accounts: &[i64],
 ) -> u64
     requires { table_places ≤ length columns.now }
-    ensures { result ≡ open_number month (rows_of n columns.now) profile.now tariff (record { allotted = allotted.entry.now; accounts = accounts.now }) }
+    ensures { result ≡ open_number month (rows_of n columns.now) profile.now tariff (record { allotted = allotted.now; accounts = accounts.now }) }
 {
     let stage = month.stage;
     if is_open(stage) {
@@ -47,7 +47,7 @@ impl Month {
         accounts: &mut [i64],
     ) -> Ended
         requires { table_places ≤ length columns.now }
-        ensures { ◌≡◌ {A = OpenEnd} (record { answer = result; ledger = record { allotted = allotted.exit.now; accounts = accounts.new } }) (open_call self (rows_of n columns.now) profile.now tariff (record { allotted = allotted.entry.now; accounts = accounts.old })) }
+        ensures { ◌≡◌ {A = OpenEnd} (record { answer = result; ledger = record { allotted = allotted.new; accounts = accounts.new } }) (open_call self (rows_of n columns.now) profile.now tariff (record { allotted = allotted.old; accounts = accounts.old })) }
     {
         let no = open_number(self, n, columns, profile, tariff, allotted, accounts);
         if no != 0 {
@@ -81,7 +81,7 @@ impl Month {
         allotted: &mut [u64],
         accounts: &mut [i64],
     ) -> Ended
-        ensures { (plants : List Plant) → Held plants n c → ◌≡◌ {A = OpenEnd} (record { answer = result; ledger = record { allotted = allotted.exit.now; accounts = accounts.new } }) (open_call self plants profile.now tariff (record { allotted = allotted.entry.now; accounts = accounts.old })) }
+        ensures { (plants : List Plant) → Held plants n c → ◌≡◌ {A = OpenEnd} (record { answer = result; ledger = record { allotted = allotted.new; accounts = accounts.new } }) (open_call self plants profile.now tariff (record { allotted = allotted.old; accounts = accounts.old })) }
     {
         self.open_columns(n, &c[..], profile, tariff, allotted, accounts)
     }
@@ -95,7 +95,7 @@ impl Month {
         allotted: &mut [u64],
         accounts: &mut [i64],
     ) -> Ended
-        ensures { ◌≡◌ {A = OpenEnd} (record { answer = result; ledger = record { allotted = allotted.exit.now; accounts = accounts.new } }) (open_call self plants.now profile.now tariff (record { allotted = allotted.entry.now; accounts = accounts.old })) }
+        ensures { ◌≡◌ {A = OpenEnd} (record { answer = result; ledger = record { allotted = allotted.new; accounts = accounts.new } }) (open_call self plants.now profile.now tariff (record { allotted = allotted.old; accounts = accounts.old })) }
     {
         let n = plants.len();
         let c = records::columns(plants);

@@ -75,7 +75,7 @@ pub fn inputs_number(
     accounts: &[i64],
 ) -> u64
     requires { table_places ≤ length columns.now }
-    ensures { result ≡ inputs_number month (rows_of n columns.now) profile.now metered.now lent (record { allotted = allotted.entry.now; accounts = accounts.now }) }
+    ensures { result ≡ inputs_number month (rows_of n columns.now) profile.now metered.now lent (record { allotted = allotted.now; accounts = accounts.now }) }
 {
     let no = own_number(month, n as u64, profile.len() as u64);
     if no != 0 {
@@ -97,7 +97,7 @@ pub fn bounds_number(
     tariff: u64,
 ) -> u64
     requires { in_bounds (record { allotted = allotted.now; accounts = accounts.now }) ≡ true → Postable (record { allotted = allotted.now; accounts = accounts.now }) figures.now nets.now tariff }
-    ensures { result ≡ bounds_number (record { allotted = allotted.entry.now; accounts = accounts.now }) (added (record { allotted = allotted.entry.now; accounts = accounts.now }) (hour_figures figures.now nets.now tariff)) }
+    ensures { result ≡ bounds_number (record { allotted = allotted.now; accounts = accounts.now }) (added (record { allotted = allotted.now; accounts = accounts.now }) (hour_figures figures.now nets.now tariff)) }
 {
     if !ledger::in_bounds(allotted, accounts) {
         return 19;
@@ -188,8 +188,8 @@ impl Month {
         allotted: &mut [u64],
         accounts: &mut [i64],
     ) -> Settled
-        requires { Ready self n columns.now profile.now metered.now allotment.old (record { allotted = allotted.now; accounts = accounts.old }) figures.old nets.old }
-        ensures { ◌≡◌ {A = SettleEnd} (record { answer = result; allotment = allotment.new; ledger = record { allotted = allotted.exit.now; accounts = accounts.new } }) (settle_call self (rows_of n columns.now) profile.now metered.now allotment.old (record { allotted = allotted.entry.now; accounts = accounts.old })) }
+        requires { Ready self n columns.now profile.now metered.now allotment.old (record { allotted = allotted.old; accounts = accounts.old }) figures.old nets.old }
+        ensures { ◌≡◌ {A = SettleEnd} (record { answer = result; allotment = allotment.new; ledger = record { allotted = allotted.new; accounts = accounts.new } }) (settle_call self (rows_of n columns.now) profile.now metered.now allotment.old (record { allotted = allotted.old; accounts = accounts.old })) }
     {
         let hour = work_columns(n, columns, profile, self.due, metered, figures, nets);
         let no = bounds_number(allotted, accounts, figures, nets, self.tariff);
@@ -213,7 +213,7 @@ impl Month {
         accounts: &mut [i64],
     ) -> Settled
         requires { table_places ≤ length columns.now }
-        ensures { ◌≡◌ {A = SettleEnd} (record { answer = result; allotment = allotment.new; ledger = record { allotted = allotted.exit.now; accounts = accounts.new } }) (settle_call self (rows_of n columns.now) profile.now metered.now allotment.old (record { allotted = allotted.entry.now; accounts = accounts.old })) }
+        ensures { ◌≡◌ {A = SettleEnd} (record { answer = result; allotment = allotment.new; ledger = record { allotted = allotted.new; accounts = accounts.new } }) (settle_call self (rows_of n columns.now) profile.now metered.now allotment.old (record { allotted = allotted.old; accounts = accounts.old })) }
     {
         let room = allotment.len();
         let lent = room as u64;
@@ -247,7 +247,7 @@ impl Month {
         allotted: &mut [u64],
         accounts: &mut [i64],
     ) -> Settled
-        ensures { (plants : List Plant) → Held plants n c → ◌≡◌ {A = SettleEnd} (record { answer = result; allotment = allotment.new; ledger = record { allotted = allotted.exit.now; accounts = accounts.new } }) (settle_call self plants profile.now metered.now allotment.old (record { allotted = allotted.entry.now; accounts = accounts.old })) }
+        ensures { (plants : List Plant) → Held plants n c → ◌≡◌ {A = SettleEnd} (record { answer = result; allotment = allotment.new; ledger = record { allotted = allotted.new; accounts = accounts.new } }) (settle_call self plants profile.now metered.now allotment.old (record { allotted = allotted.old; accounts = accounts.old })) }
     {
         self.settle_columns(n, &c[..], profile, metered, allotment, allotted, accounts)
     }
@@ -262,7 +262,7 @@ impl Month {
         allotted: &mut [u64],
         accounts: &mut [i64],
     ) -> Settled
-        ensures { ◌≡◌ {A = SettleEnd} (record { answer = result; allotment = allotment.new; ledger = record { allotted = allotted.exit.now; accounts = accounts.new } }) (settle_call self plants.now profile.now metered.now allotment.old (record { allotted = allotted.entry.now; accounts = accounts.old })) }
+        ensures { ◌≡◌ {A = SettleEnd} (record { answer = result; allotment = allotment.new; ledger = record { allotted = allotted.new; accounts = accounts.new } }) (settle_call self plants.now profile.now metered.now allotment.old (record { allotted = allotted.old; accounts = accounts.old })) }
     {
         let n = plants.len();
         let c = records::columns(plants);

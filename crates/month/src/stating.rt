@@ -47,7 +47,7 @@ pub fn sizing_number(
     accounts: &[i64],
 ) -> u64
     requires { table_places ≤ length columns.now }
-    ensures { result ≡ sizing_number month (rows_of n columns.now) (record { allotted = allotted.entry.now; accounts = accounts.now }) }
+    ensures { result ≡ sizing_number month (rows_of n columns.now) (record { allotted = allotted.now; accounts = accounts.now }) }
 {
     let no = due_number(month, n as u64);
     if no != 0 {
@@ -78,7 +78,7 @@ pub fn statement_number(
     lent: u64,
 ) -> u64
     requires { table_places ≤ length columns.now }
-    ensures { result ≡ statement_number month (rows_of n columns.now) (record { allotted = allotted.entry.now; accounts = accounts.now }) lent }
+    ensures { result ≡ statement_number month (rows_of n columns.now) (record { allotted = allotted.now; accounts = accounts.now }) lent }
 {
     let no = sizing_number(month, n, columns, allotted, accounts);
     if no != 0 {
@@ -101,7 +101,7 @@ pub fn write_rows(
 ) -> usize
     requires table_places_in_bounds { (table_places ≤ length columns.now) × (room_for n ≤ length text.old) }
     requires in_limits { InLimits settled (rows_of n columns.now) (record { allotted = allotted.now; accounts = accounts.now }) }
-    ensures { Fills (statement_text settled (rows_of n columns.now) (record { allotted = allotted.entry.now; accounts = accounts.now })) text.old result text.new }
+    ensures { Fills (statement_text settled (rows_of n columns.now) (record { allotted = allotted.now; accounts = accounts.now })) text.old result text.new }
 {
     let submarket = records::column(columns, 0, n);
     let number = records::column(columns, 1, n);
@@ -119,7 +119,7 @@ impl Month {
         bytes: &mut [u8],
     ) -> Stated
         requires { table_places ≤ length columns.now }
-        ensures { ◌≡◌ {A = StatementEnd} (record { answer = result; bytes = bytes.new }) (statement_call self (rows_of n columns.now) (record { allotted = allotted.entry.now; accounts = accounts.now }) bytes.old) }
+        ensures { ◌≡◌ {A = StatementEnd} (record { answer = result; bytes = bytes.new }) (statement_call self (rows_of n columns.now) (record { allotted = allotted.now; accounts = accounts.now }) bytes.old) }
     {
         let no = statement_number(self, n, columns, allotted, accounts, bytes.len() as u64);
         if no != 0 {
@@ -147,7 +147,7 @@ impl Month {
         accounts: &[i64],
     ) -> Sized
         requires { table_places ≤ length columns.now }
-        ensures { Sizing self (rows_of n columns.now) (record { allotted = allotted.entry.now; accounts = accounts.now }) result }
+        ensures { Sizing self (rows_of n columns.now) (record { allotted = allotted.now; accounts = accounts.now }) result }
     {
         let no = sizing_number(self, n, columns, allotted, accounts);
         if no != 0 {
@@ -174,7 +174,7 @@ impl Month {
         accounts: &[i64],
         bytes: &mut [u8],
     ) -> Stated
-        ensures { (plants : List Plant) → Held plants n c → ◌≡◌ {A = StatementEnd} (record { answer = result; bytes = bytes.new }) (statement_call self plants (record { allotted = allotted.entry.now; accounts = accounts.now }) bytes.old) }
+        ensures { (plants : List Plant) → Held plants n c → ◌≡◌ {A = StatementEnd} (record { answer = result; bytes = bytes.new }) (statement_call self plants (record { allotted = allotted.now; accounts = accounts.now }) bytes.old) }
     {
         self.statement_columns(n, &c[..], allotted, accounts, bytes)
     }
@@ -187,7 +187,7 @@ impl Month {
         allotted: &[u64],
         accounts: &[i64],
     ) -> Sized
-        ensures { (plants : List Plant) → Held plants n c → Sizing self plants (record { allotted = allotted.entry.now; accounts = accounts.now }) result }
+        ensures { (plants : List Plant) → Held plants n c → Sizing self plants (record { allotted = allotted.now; accounts = accounts.now }) result }
     {
         self.size_columns(n, &c[..], allotted, accounts)
     }
@@ -200,7 +200,7 @@ impl Month {
         accounts: &[i64],
         bytes: &mut [u8],
     ) -> Stated
-        ensures { ◌≡◌ {A = StatementEnd} (record { answer = result; bytes = bytes.new }) (statement_call self plants.now (record { allotted = allotted.entry.now; accounts = accounts.now }) bytes.old) }
+        ensures { ◌≡◌ {A = StatementEnd} (record { answer = result; bytes = bytes.new }) (statement_call self plants.now (record { allotted = allotted.now; accounts = accounts.now }) bytes.old) }
     {
         let n = plants.len();
         let c = records::columns(plants);
@@ -209,7 +209,7 @@ impl Month {
 
     // A size that the statement does not pass, at most 128P + 128. The plant table is one lent list of records.
     pub fn statement_size(mut self, plants: &[Plant], allotted: &[u64], accounts: &[i64]) -> Sized
-        ensures { Sizing self plants.now (record { allotted = allotted.entry.now; accounts = accounts.now }) result }
+        ensures { Sizing self plants.now (record { allotted = allotted.now; accounts = accounts.now }) result }
     {
         let n = plants.len();
         let c = records::columns(plants);

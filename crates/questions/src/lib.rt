@@ -99,7 +99,7 @@ pub fn rows_number(n: usize, columns: &[u64]) -> u64
 // 11: ledger lists of exactly 4P and 2P, for P in limits.
 pub fn lengths_number(plants: u64, allotted: &[u64], accounts: &[i64]) -> u64
     requires { plants ≤ 512 }
-    ensures { result ≡ lengths_number plants (record { allotted = allotted.entry.now; accounts = accounts.now }) }
+    ensures { result ≡ lengths_number plants (record { allotted = allotted.now; accounts = accounts.now }) }
 {
     if allotted.len() as u64 != 4 * plants {
         return 11;
@@ -113,7 +113,7 @@ pub fn lengths_number(plants: u64, allotted: &[u64], accounts: &[i64]) -> u64
 // 11, then 19: every figure of the ledger at hand inside its bound.
 pub fn ledger_number(plants: u64, allotted: &[u64], accounts: &[i64]) -> u64
     requires { plants ≤ 512 }
-    ensures { result ≡ ledger_number plants (record { allotted = allotted.entry.now; accounts = accounts.now }) }
+    ensures { result ≡ ledger_number plants (record { allotted = allotted.now; accounts = accounts.now }) }
 {
     let no = lengths_number(plants, allotted, accounts);
     if no != 0 {
@@ -135,7 +135,7 @@ pub fn tables_number(
     accounts: &[i64],
 ) -> u64
     requires { (n ≤ 512) × (table_places ≤ length columns.now) × (plants ≤ 512) × (length profile.now ≤ 744) }
-    ensures { result ≡ tables_number plants (rows_of n columns.now) profile.now (record { allotted = allotted.entry.now; accounts = accounts.now }) }
+    ensures { result ≡ tables_number plants (rows_of n columns.now) profile.now (record { allotted = allotted.now; accounts = accounts.now }) }
 {
     let no = rows_number(n, columns);
     if no != 0 {

@@ -18,7 +18,7 @@ pub extern "C" fn iolwarch_open(
     allotted: &mut [u64],
     accounts: &mut [i64],
 ) -> KeptEnd
-    ensures { ◌≡◌ {A = OpenKeptEnd} (record { answer = result; ledger = record { allotted = allotted.exit.now; accounts = accounts.new } }) (open_kept month plants.now profile.now tariff (record { allotted = allotted.entry.now; accounts = accounts.old })) }
+    ensures { ◌≡◌ {A = OpenKeptEnd} (record { answer = result; ledger = record { allotted = allotted.new; accounts = accounts.new } }) (open_kept month plants.now profile.now tariff (record { allotted = allotted.old; accounts = accounts.old })) }
 {
     let meant = month_of(month);
     let opened = meant.open(plants, profile, tariff, allotted, accounts);
@@ -36,7 +36,7 @@ pub extern "C" fn iolwarch_settle(
     allotted: &mut [u64],
     accounts: &mut [i64],
 ) -> KeptSettle
-    ensures { ◌≡◌ {A = SettleKeptEnd} (record { answer = result; allotment = allotment.new; ledger = record { allotted = allotted.exit.now; accounts = accounts.new } }) (settle_kept month plants.now profile.now metered.now allotment.old (record { allotted = allotted.entry.now; accounts = accounts.old })) }
+    ensures { ◌≡◌ {A = SettleKeptEnd} (record { answer = result; allotment = allotment.new; ledger = record { allotted = allotted.new; accounts = accounts.new } }) (settle_kept month plants.now profile.now metered.now allotment.old (record { allotted = allotted.old; accounts = accounts.old })) }
 {
     let meant = month_of(month);
     let settled = meant.settle(plants, profile, metered, allotment, allotted, accounts);
@@ -58,7 +58,7 @@ pub extern "C" fn iolwarch_balance(
     allotted: &[u64],
     accounts: &[i64],
 ) -> KeptBalance
-    ensures { result ≡ balance_kept month (record { allotted = allotted.entry.now; accounts = accounts.now }) }
+    ensures { result ≡ balance_kept month (record { allotted = allotted.now; accounts = accounts.now }) }
 {
     kept_month::balance_kept(month, allotted, accounts)
 }
@@ -72,7 +72,7 @@ pub extern "C" fn iolwarch_statement(
     accounts: &[i64],
     bytes: &mut [u8],
 ) -> KeptStated
-    ensures { ◌≡◌ {A = StatementKeptEnd} (record { answer = result; bytes = bytes.new }) (statement_kept month plants.now (record { allotted = allotted.entry.now; accounts = accounts.now }) bytes.old) }
+    ensures { ◌≡◌ {A = StatementKeptEnd} (record { answer = result; bytes = bytes.new }) (statement_kept month plants.now (record { allotted = allotted.now; accounts = accounts.now }) bytes.old) }
 {
     let meant = month_of(month);
     let stated = meant.statement(plants, allotted, accounts, bytes);
@@ -87,7 +87,7 @@ pub extern "C" fn iolwarch_statement_size(
     allotted: &[u64],
     accounts: &[i64],
 ) -> KeptSized
-    ensures { SizeKept month plants.now (record { allotted = allotted.entry.now; accounts = accounts.now }) result }
+    ensures { SizeKept month plants.now (record { allotted = allotted.now; accounts = accounts.now }) result }
 {
     let meant = month_of(month);
     let sized = meant.statement_size(plants, allotted, accounts);

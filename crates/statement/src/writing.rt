@@ -135,7 +135,7 @@ pub fn write_statement(
 ) -> usize
     requires stateable { Stateable submarket.now number.now (record { allotted = allotted.now; accounts = accounts.now }) }
     requires accounts_in_bounds { statement_length settled (plants_of submarket.now number.now [] [] []) (record { allotted = allotted.now; accounts = accounts.now }) ≤ length text.old }
-    ensures { Fills (statement_text settled (plants_of submarket.now number.now [] [] []) (record { allotted = allotted.entry.now; accounts = accounts.now })) text.old result text.new }
+    ensures { Fills (statement_text settled (plants_of submarket.now number.now [] [] []) (record { allotted = allotted.now; accounts = accounts.now })) text.old result text.new }
 {
     let columns = ledger::column_sums(allotted);
     let end = write_plant_lines(submarket, number, allotted, accounts, text, 0);

@@ -12,8 +12,7 @@ use Rattle.hour.specs.Work.{Workable, HourWorked}
 use Rattle.records.specs.Records.{column_of, rows_of}
 use Rattle.records.proofs.Figures.{columns-rows}
 use Rattle.month.specs.Steps.{WorkableRows}
-use Rattle.month.proofs.settle.work_columns.Statement.{statement}
-use Rattle.month.proofs.settle.work_columns.Tie as tie
+use Rattle.month.proofs.settle.work_columns.Goals as goal
 
 module _ {n k : ℕ} {c profile metered lent : List ℕ} {lentNets : List ℤ} (is : WorkableRows n c profile k metered lent lentNets) {ss ns gs ls vs : List ℕ}
     (e₀ : ss ≡ column_of 0 n c) (e₁ : ns ≡ column_of 1 n c) (e₂ : gs ≡ column_of 2 n c) (e₃ : ls ≡ column_of 3 n c) (e₄ : vs ≡ column_of 4 n c) where
@@ -32,26 +31,8 @@ module _ {n k : ℕ} {c profile metered lent : List ℕ} {lentNets : List ℤ} (
       → HourWorked (hour_of (rows_of n c) profile metered k) answer figures nets
   same-hour {answer} {figures} {nets} = subst (λ (ps : List Plant). HourWorked (hour_of ps profile metered k) answer figures nets) same_rows
 
-work-requires : tie.Need-work-requires
-work-requires c κs =
-    let a = c.before.before in
-    lent-columns c.before.before.before.before.before.before.before.before.before.before.before.requires a.before.before.before.before.column.ensures.0 a.before.before.before.column2.ensures.0 a.before.before.column3.ensures.0 a.before.column4.ensures.0 a.column5.ensures.0
+pub work-requires : goal.work-requires
+work-requires c = lent-columns c.requires c.column-submarket.ensures.0 c.column-number.ensures.0 c.column-guarantee.ensures.0 c.column-loss.ensures.0 c.column-availability.ensures.0
 
-returns : tie.Need-returns
-returns c =
-    let a = c.before.before.before.before.before.before in
-    same-hour c.before.before.before.before.before.before.before.before.before.before.before.before.before.before.before.requires a.before.before.before.before.column.ensures.0 a.before.before.before.column2.ensures.0 a.before.before.column3.ensures.0 a.before.column4.ensures.0 a.column5.ensures.0 c.before.before.before.work.ensures
-
-pub work-columns-spec : {M : Type 1} → statement M
-work-columns-spec =
-    tie.close
-    (tie.spec
-    (λ c κs. search rules)  -- column-requires
-    (λ c κs. search rules)  -- column-requires-2
-    (λ c κs. search rules)  -- column-requires-3
-    (λ c κs. search rules)  -- column-requires-4
-    (λ c κs. search rules)  -- column-requires-5
-    work-requires
-    (λ c. search rules)  -- same-length
-    (λ c. search rules)  -- same-length-2
-    returns)
+pub returns : goal.returns
+returns c = same-hour c.requires c.column-submarket.ensures.0 c.column-number.ensures.0 c.column-guarantee.ensures.0 c.column-loss.ensures.0 c.column-availability.ensures.0 c.work.ensures

@@ -13,8 +13,7 @@ use Rattle.month.specs.declared.Month.{Month}
 use Rattle.month.specs.Questions.{open_number}
 use Rattle.month.specs.Calls.{opened_month, OpenEnd, open_call}
 use Rattle.month.proofs.Asked.{opened}
-use Rattle.month.proofs.Month.open_columns.Statement.{statement}
-use Rattle.month.proofs.Month.open_columns.Tie as tie
+use Rattle.month.proofs.Month.open_columns.Goals as goal
 
 module _ (m : Month) (n : ℕ) (c profile : List ℕ) (t k : ℕ) (l : Ledger) (e : k ≡ open_number m (rows_of n c) profile t l) (z : k ≡ 0) where
   zeroed : (a : List ℕ) (b : List ℤ) → a ≡ replicate (length l.allotted) 0 → b ≡ replicate (length l.accounts) (pos 0)
@@ -42,23 +41,9 @@ module _ (m : Month) (n : ℕ) (c profile : List ℕ) (t k : ℕ) (l : Ledger) (
       })
       (sym (length-rows n c)) (zeroed a b p q))
 
-returns-2 : tie.Need-returns-2
-returns-2 c =
-    let zeros = c.before.before.before.before.before in
-    let asked = zeros.before.before in
-    is_open _ _ _ _ _ _ _ asked.before.open_number_lem.ensures asked.if1.false _ _ zeros.zero-figures.ensures c.before.zero-accounts.ensures
+pub returns : goal.returns
+returns c = is_open _ _ _ _ _ _ _ c.open_number-no.ensures c.if-no-ne0.false _ _ c.zero_figures.ensures c.zero_accounts.ensures
 
-pub open-columns-spec : {M : Type 1} → statement M
+pub returns-then-no-ne0 : goal.returns-then-no-ne0
 unfolding open_call
-open-columns-spec =
-    tie.close
-    (tie.spec
-    (λ c κs. search rules)  -- open-number-requires
-    (λ c. search rules)
-    (λ c. search rules)
-    (λ c. search outcomes)  -- returns
-    (λ c κs. search rules)  -- zero-figures-requires
-    (λ c κs. search rules)  -- zero-accounts-requires
-    (λ c. search rules)
-    (λ c. search rules)
-    returns-2)
+returns-then-no-ne0 c = search outcomes

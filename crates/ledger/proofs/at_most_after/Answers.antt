@@ -2,14 +2,8 @@
 use Prim.Native.Nat.{◌+◌}
 use native.Mathlib.Omega.{arith}
 use Rattle.lists.proofs.Columns.{at-⊕, length-rowwise}
-use Rattle.lists.proofs.Loops.{limiting, limiting_more, exceeded, limited}
+use Rattle.lists.proofs.Loops.{limiting_more, exceeded, limited}
 use Rattle.ledger.proofs.at_most_after.Goals as goal
-
-pub loop-i-init : goal.loop-i-init
-loop-i-init c = limiting
-
-pub overflow_add-figures : goal.overflow_add-figures
-overflow_add-figures c = omega (arith, c.requires.ledger.at c.loop-i.i, c.requires.hour.at c.loop-i.i)
 
 pub returns-then-bound-figures : goal.returns-then-bound-figures
 returns-then-bound-figures c = let s = c.args in

@@ -6,7 +6,7 @@ use lib.IntN.{ℤ, pos, nat_abs, ◌+ℤ◌, ◌*ℤ◌}
 use lib.ListN.{get_or}
 use mir.Syntax.{w64}
 use mir.Val.{to_z, of_z}
-use Rattle.lists.proofs.Loops.{passing, passing_more, halted, passed}
+use Rattle.lists.proofs.Loops.{passing_more, halted, passed}
 use Rattle.lists.proofs.Questions.{called_no, called_yes}
 use Rattle.signed.specs.Figures.{is_within}
 use Rattle.signed.proofs.Machine.{read_is, result_is}
@@ -52,13 +52,6 @@ test c =
     (result_is c.plus-figure.result c.plus-figure.type_inv
     (c.plus-figure.ensures ∙ ap₂ ◌+ℤ◌ (figure_is c.before.before) (more-is c.before.before.before))
     ∙ sym (after-at s.accounts.now s.nets.now s.rate s.start c.requires.1 c.requires.0 c.loop-i.i))
-
-pub loop-i-init : goal.loop-i-init
-loop-i-init c = passing
-
-pub times-more-requires : goal.times-more-requires
-unfolding net
-times-more-requires c = omega (arith, ap nat_abs (net_is c), c.requires.1.hour.at c.loop-i.i)
 
 pub plus-figure-requires : goal.plus-figure-requires
 unfolding net more figure

@@ -5,15 +5,6 @@ use Rattle.lines.proofs.Commas.{next_low}
 use Rattle.places.proofs.Places.{no_place, placed}
 use Rattle.places.proofs.field_place.Goals as goal
 
-pub field_number-number-requires : goal.field_number-number-requires
-field_number-number-requires c = tt
-
-pub field_start-start-requires : goal.field_start-start-requires
-field_start-start-requires c = tt
-
-pub next_comma-end-requires : goal.next_comma-end-requires
-next_comma-end-requires c = tt
-
 pub overflow_sub-result : goal.overflow_sub-result
 overflow_sub-result c = let low = next_low c.args.line.now c.field_start-start.result in
     omega (arith, c.next_comma-end.ensures)

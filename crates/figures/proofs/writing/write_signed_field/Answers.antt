@@ -1,13 +1,8 @@
 -- `writing::write_signed_field` meets its contract. Assumes nothing.
-use mathlib.Core.Path.{ap}
-use native.Mathlib.Omega.{arith}
 use mir.Facts.{to_z-of_z}
 use Rattle.figures.specs.Figures.{signed_figure_length}
 use Rattle.figures.proofs.Written.{wrote_next}
 use Rattle.figures.proofs.writing.write_signed_field.Goals as goal
-
-pub write_signed_figure-requires : goal.write_signed_figure-requires
-write_signed_figure-requires c = omega (arith, c.write_byte-next.ensures.behind, c.write_byte-next.auto.text, c.requires, ap signed_figure_length (to_z-of_z c.ranges.z))
 
 pub returns : goal.returns
 unfolding signed_figure_length

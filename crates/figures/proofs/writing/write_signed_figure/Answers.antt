@@ -27,9 +27,6 @@ bounds-text-at c = omega (arith, length-below c.args.z (below c))
 pub write_figure-requires : goal.write_figure-requires
 write_figure-requires c = simp length-set (omega (arith, ap figure_length (size (goal.at.write_figure-requires c).After-magnitude-x), length-below c.args.z (below (goal.at.write_figure-requires c).Then-z-lt0)))
 
-pub shape_of-text-then-z-lt0 : goal.shape_of-text-then-z-lt0
-shape_of-text-then-z-lt0 c = c.write_figure.auto.text ∙ length-set c.args.text.now c.args.at 45
-
 pub returns-then-z-lt0 : goal.returns-then-z-lt0
 returns-then-z-lt0 c = wrote_below c.args.z c.magnitude-x.result (size (goal.at.returns-then-z-lt0 c).After-magnitude-x) c.args.text.now c.args.at c.requires (below (goal.at.returns-then-z-lt0 c).Then-z-lt0) c.write_figure.ensures
 

@@ -1,9 +1,8 @@
 -- `reading::read_fields` meets its contract: a turn reads a field. Assumes nothing.
 use mathlib.Core.Path.{◌≡◌, ◌∙◌}
 use mathlib.Core.Bool.{◌&&◌}
-use native.Mathlib.Omega.{arith}
 use Rattle.lists.proofs.Questions.{and_go, and_stopped}
-use Rattle.lines.proofs.Lines.{gathering-more, gathered, crowded, ends-inside}
+use Rattle.lines.proofs.Lines.{gathering-more, gathered, crowded}
 use Rattle.lines.proofs.reading.read_fields.Goals as goal
 use Rattle.lines.proofs.reading.read_fields.Goals.{Joined-good, then-good, else-good}
 
@@ -14,9 +13,6 @@ both c =
       | then-good w ↦ and_go _ _ _ w.if-good.true w.good-is
       | else-good w ↦ and_stopped _ _ _ w.good-is (w.good-is ∙ w.if-good.false)
     ]
-
-pub overflow_add-at : goal.overflow_add-at
-overflow_add-at c = omega (arith, ends-inside c.loop-count.invariant c.loop-count-test.true c.field_at-field.ensures.content c.read_figure-read.ensures (both c))
 
 pub returns-then-line-at : goal.returns-then-line-at
 returns-then-line-at c = gathered c.loop-count.invariant c.loop-count-test.true c.field_at-field.ensures.content c.read_figure-read.ensures (both (goal.at.returns-then-line-at c).Joined-good) c.if-line-at.true

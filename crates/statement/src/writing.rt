@@ -71,7 +71,7 @@ fn write_row(
     text: &mut [u8],
     at: usize,
 ) -> usize
-    requires i_in_bounds { (i < length submarket.now) × Even submarket.now number.now allotted.now accounts.now }
+    requires row { (i < length submarket.now) × Even submarket.now number.now allotted.now accounts.now }
     requires room { Room (row_line submarket.now number.now allotted.now accounts.now i) at text.old }
     ensures { Wrote (row_line submarket.now number.now allotted.now accounts.now i) at text.old text.new result }
 {
@@ -134,7 +134,7 @@ pub fn write_statement(
     text: &mut [u8],
 ) -> usize
     requires stateable { Stateable submarket.now number.now (record { allotted = allotted.now; accounts = accounts.now }) }
-    requires accounts_in_bounds { statement_length settled (plants_of submarket.now number.now [] [] []) (record { allotted = allotted.now; accounts = accounts.now }) ≤ length text.old }
+    requires room { statement_length settled (plants_of submarket.now number.now [] [] []) (record { allotted = allotted.now; accounts = accounts.now }) ≤ length text.old }
     ensures { Fills (statement_text settled (plants_of submarket.now number.now [] [] []) (record { allotted = allotted.now; accounts = accounts.now })) text.old result text.new }
 {
     let columns = ledger::column_sums(allotted);

@@ -1,0 +1,21 @@
+-- `writing::write_fields` meets its contract. The invariant: the fields of the figures from i on are left to write. Assumes nothing.
+use mathlib.Core.List.{◌∷◌}
+use lib.ListN.{get_or}
+use Rattle.figures.specs.Figures.{figure, figure_length}
+use Rattle.statement.proofs.Text.{fields-more, fields-none}
+use Rattle.statement.proofs.Parts.{left-room, left-more, left-none}
+use Rattle.statement.proofs.writing.write_fields.Goals as goal
+
+pub write_field-end-requires : goal.write_field-end-requires
+unfolding figure_length
+write_field-end-requires c = let figures = c.args.figures.now in
+    (left-room c.loop-i.invariant (44 ∷ figure (get_or figures c.loop-i.i 0)) _ (fields-more figures c.loop-i.i c.loop-i-test.true)).fits
+
+pub loop-i-preserved : goal.loop-i-preserved
+unfolding figure_length
+loop-i-preserved c = left-more c.loop-i.invariant _ _ (fields-more _ _ c.loop-i-test.true)
+    c.write_field-end.ensures
+
+pub returns : goal.returns
+unfolding figure_length
+returns c = left-none c.loop-i.invariant (fields-none _ _ c.loop-i-test.false)

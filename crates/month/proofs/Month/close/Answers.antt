@@ -1,6 +1,5 @@
 -- `Month::close` meets its contract: refused, the month is as it came; accepted, it is closed. Assumes nothing.
 use mathlib.Core.Path.{◌≡◌}
-use borrow.Author.Rules.{rules}
 use Rattle.lists.proofs.Questions.{outcomes}
 use Rattle.month.specs.declared.Month.{Month}
 use Rattle.month.specs.declared.Ended.{Ended}

@@ -4,7 +4,6 @@ use mathlib.Core.List.{List}
 use Prim.Native.Nat.{ℕ}
 use lib.IntN.{ℤ, pos}
 use lib.ListN.{length, replicate}
-use borrow.Author.Rules.{rules}
 use Rattle.lists.proofs.Questions.{outcomes, accepts}
 use Rattle.records.specs.Records.{rows_of}
 use Rattle.records.proofs.Figures.{length-rows}

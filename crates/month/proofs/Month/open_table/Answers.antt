@@ -1,5 +1,4 @@
 -- `Month::open_table` meets its contract: the columns make the records that they hold, and more than 512 rows are refused whatever they are. Assumes nothing.
-use borrow.Author.Rules.{rules}
 use Rattle.month.proofs.Many.{open_records}
 use Rattle.month.proofs.Month.open_table.Goals as goal
 

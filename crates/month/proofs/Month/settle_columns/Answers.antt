@@ -4,7 +4,6 @@ use Prim.Native.Nat.{◌≤◌}
 use lib.IntN.{pos}
 use lib.ListN.{length, replicate}
 use lib.Seq.{length-take-le}
-use borrow.Author.Rules.{rules}
 use Rattle.lists.proofs.Parts.{front_count}
 use Rattle.month.proofs.Workable.{roomy}
 use Rattle.month.proofs.Ends.{refused_inputs}
@@ -32,8 +31,8 @@ slice_bounds-settle_hour-end-2 c = front_count _ (replicate 512 (pos 0)) (room (
 
 pub settle_hour-requires : goal.settle_hour-requires
 settle_hour-requires c = record {
-      long = c.requires;
-      asked = sym c.inputs_number-no.ensures ∙ c.if-no-ne0.false;
-      room = length-take-le (length c.args.allotment.now) (replicate 2048 0) (room (goal.at.settle_hour-requires c).Else-no-ne0).0;
-      net_rows = length-take-le c.args.n (replicate 512 (pos 0)) (room (goal.at.settle_hour-requires c).Else-no-ne0).1;
-    }
+  long = c.requires;
+  asked = sym c.inputs_number-no.ensures ∙ c.if-no-ne0.false;
+  room = length-take-le (length c.args.allotment.now) (replicate 2048 0) (room (goal.at.settle_hour-requires c).Else-no-ne0).0;
+  net_rows = length-take-le c.args.n (replicate 512 (pos 0)) (room (goal.at.settle_hour-requires c).Else-no-ne0).1;
+}

@@ -1,7 +1,6 @@
 -- `Month::settle_hour` meets its contract: question 19 refused, every list is as it came; else the hour's figures are written and added. Assumes nothing.
 use mathlib.Core.Path.{◌∙◌}
 use native.Mathlib.Omega.{arith}
-use borrow.Author.Rules.{rules}
 use Rattle.month.proofs.Asked.{bounds}
 use Rattle.month.proofs.Workable.{due-small, workable, postable}
 use Rattle.month.proofs.Ends.{refused_bounds, written}

@@ -1,6 +1,5 @@
 -- `Month::unsettled` meets its contract. Assumes nothing.
 use mathlib.Core.Path.{ap₂}
-use borrow.Author.Rules.{rules}
 use Rattle.month.proofs.Month.unsettled.Goals as goal
 
 pub returns : goal.returns

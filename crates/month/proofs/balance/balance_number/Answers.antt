@@ -1,6 +1,6 @@
 -- `balance::balance_number` meets its contract: each return is the first no, by the tests that led to it. Assumes nothing.
 use borrow.Author.Rules.{rules}
-use Rattle.lists.proofs.Questions.{asks, granted, limits}
+use Rattle.lists.proofs.Questions.{asks, limits}
 use Rattle.month.specs.Questions.{balance_number}
 use Rattle.lists.proofs.Questions.{called_yes}
 use Rattle.month.proofs.balance.balance_number.Goals as goal

@@ -1,6 +1,6 @@
 -- `close::close_number` meets its contract: each return is the first no, by the tests that led to it. Assumes nothing.
 use borrow.Author.Rules.{rules}
-use Rattle.lists.proofs.Questions.{asks, granted, limits}
+use Rattle.lists.proofs.Questions.{asks, limits}
 use Rattle.month.specs.Questions.{close_number}
 use Rattle.lists.proofs.Questions.{called_yes}
 use Rattle.month.proofs.close.close_number.Goals as goal

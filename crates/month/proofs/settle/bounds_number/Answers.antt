@@ -1,6 +1,5 @@
 -- `settle::bounds_number` meets its contract: the ledger in bounds, question 19 of it with the hour added. Assumes nothing.
-use borrow.Author.Rules.{rules}
-use Rattle.lists.proofs.Questions.{asks, granted}
+use Rattle.lists.proofs.Questions.{asks}
 use Rattle.month.specs.Questions.{bounds_number}
 use Rattle.lists.proofs.Questions.{called_yes}
 use Rattle.month.proofs.settle.bounds_number.Goals as goal

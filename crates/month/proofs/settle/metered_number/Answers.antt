@@ -3,7 +3,7 @@ use mathlib.Core.Path.{◌≡◌}
 use native.Mathlib.Omega.{arith}
 use borrow.Author.Rules.{rules}
 use Rattle.lists.specs.Lists.{sum}
-use Rattle.lists.proofs.Questions.{asks, granted, limits, sum-hours}
+use Rattle.lists.proofs.Questions.{asks, limits, sum-hours}
 use Rattle.month.specs.Questions.{metered_number}
 use Rattle.lists.proofs.Questions.{called_yes}
 use Rattle.month.proofs.settle.metered_number.Goals as goal

@@ -1,5 +1,4 @@
 -- `settle::own_number` meets its contract: each return is the first no, by the tests that led to it. Assumes nothing.
-use borrow.Author.Rules.{rules}
 use Rattle.lists.proofs.Questions.{asks}
 use Rattle.month.specs.Questions.{own_number}
 use Rattle.month.proofs.settle.own_number.Goals as goal

@@ -3,7 +3,6 @@ use mathlib.Core.Path.{◌≡◌, sym, ◌∙◌, subst}
 use mathlib.Core.List.{List}
 use Prim.Native.Nat.{ℕ}
 use lib.IntN.{ℤ}
-use borrow.Author.Rules.{rules}
 use Rattle.hour.specs.declared.Plant.{Plant}
 use Rattle.hour.specs.declared.Worked.{Worked}
 use Rattle.hour.specs.Hour.{hour_of}

@@ -49,10 +49,6 @@ module _ (accounts nets : List ℤ) (rate start : ℕ) (h : Payable accounts net
       (column-place accounts_width start (omega arith) accounts i (pos 0) refl)
       (at_rate_lem rate nets i)
 
--- nets that may be added at a rate may be added as they are
-pub unrated : {accounts nets : List ℤ} {rate : ℕ} → Payable accounts nets rate → Payable accounts nets 1
-unrated h = record { rows = h.rows; ledger = h.ledger; hour = h.hour; low = omega arith }
-
 -- a column of the accounts as they would be
 pub added-column : (accounts : List ℤ) (tariff : ℕ) (nets : List ℤ) (j : ℕ) {xs : List ℤ} → column accounts_width j (accounts_of tariff nets) ≡ xs
     → column accounts_width j (accounts ⊕ℤ accounts_of tariff nets) ≡ column accounts_width j accounts ⊕ℤ xs

@@ -1,8 +1,8 @@
 -- A loop that sums a column of the accounts: `Totalling start l i z`, with z the sum of the figures before place i. The laws are totalling,
--- totalling_small, totalling_more, totalled. Assumes nothing.
+-- totalling_more, totalled. Assumes nothing.
 use mathlib.Core.Path.{◌≡◌, sym, ap, ◌∙◌}
 use mathlib.Core.List.{List}
-use Prim.Native.Nat.{ℕ, ◌+◌, ◌*◌, ◌^◌, ◌≤◌, ◌<◌}
+use Prim.Native.Nat.{ℕ, ◌+◌, ◌*◌, ◌≤◌, ◌<◌}
 use native.Mathlib.Omega.{arith}
 use lib.IntN.{ℤ, pos, nat_abs, ◌+ℤ◌, +ℤ_assoc, +ℤ_idl, +ℤ_idr}
 use lib.ListN.{length, get_or, drop}
@@ -27,9 +27,6 @@ module _ {start : ℕ} {l : List ℤ} where
   totalling = record { whole = +ℤ_idl _ ∙ sym (ap sumℤ (stride accounts_width start l)); small = omega arith }
 
   module _ (ok : Summable l) {i : ℕ} {z : ℤ} (k : Totalling start l i z) (h : i < length l) where
-    pub totalling_small : nat_abs z + nat_abs (get_or l i (pos 0)) < 2 ^ 63
-    totalling_small = omega (arith, ok.small.at i)
-
     pub totalling_more : Totalling start l (i + accounts_width) (z +ℤ get_or l i (pos 0))
     totalling_more =
         record {

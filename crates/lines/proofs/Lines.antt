@@ -22,7 +22,7 @@ use Rattle.lines.specs.Reading.{line_start, start_length, line_fields, count_fit
 use Rattle.lines.specs.Inner.{first_field, worth, ReadTo}
 use Rattle.lines.specs.declared.reading.Line.{Line}
 use Rattle.lines.proofs.Starts.{too_many}
-use Rattle.lines.proofs.Commas.{fields-more, fields-last, fields-some, field_long, next-high}
+use Rattle.lines.proofs.Commas.{fields-more, fields-last, fields-some, field_long}
 
 -- ---- a loop that reads fields
 
@@ -57,9 +57,6 @@ module _ {line : List ℕ} {from : ℕ} {figures₀ : List ℕ} where
 
     ends_at : at + length f ≡ next_comma line at
     ends_at = rw this (field_long line at g.inside)
-
-    pub ends-inside : at + length f ≤ length line
-    ends-inside = rw ends_at (next-high line at g.inside)
 
     module _ (more : List (List ℕ)) (split : fields (drop at line) ≡ first_field (drop at line) ∷ more) where
       counted : count + 1 + length more ≡ length (fields (drop from line))

@@ -38,9 +38,6 @@ pub record Matching (bytes line : List ℕ) (i : ℕ) : Type 0 where
   pub whole : starts_with bytes line ≡ starts_with (drop i bytes) (drop i line)
 
 module _ {bytes line : List ℕ} where
-  pub matching : length bytes ≤ length line → Matching bytes line 0
-  matching h = record { room = h; whole = refl }
-
   module _ {i : ℕ} (m : Matching bytes line i) where
     step : i < length bytes → starts_with bytes line ≡ (eqb (get_or line i 0) (get_or bytes i 0) && starts_with (drop (i + 1) bytes) (drop (i + 1) line))
     unfolding starts_with

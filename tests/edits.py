@@ -40,7 +40,7 @@ NO_FACT = re.compile(
     r"(expected|has) type `\(*([^` ]*\.)?(ℕ|ℤ|Bool|List|Option|RefT|Array|Type|Month|Settled|Balanced|Ended|Stated|Sized)[ `]"
     r"|(expected|has) type `\(*(goal|[^` ]*\.Goals)\.(?!the-)"
 )
-NO_NAME = re.compile(r"that can be named from here|has no field|is not in scope|no module is found")
+NO_NAME = re.compile(r"that can be named from here|has no field|is not in scope(?! here, so what is shown)|no module is found")
 AFTER = re.compile(r"(was|were) not (admitted|checked)|was rejected")
 
 

@@ -192,7 +192,7 @@ def main(names):
     for edit in sorted(CRATES.glob("*/must-fail/*.edit")):
         if not names or edit.parent.parent.name in names:
             edits.setdefault(edit.parent.parent.name, []).append(edit)
-    with tempfile.TemporaryDirectory(prefix="must-fail-") as rooms, concurrent.futures.ThreadPoolExecutor(os.cpu_count()) as threads:
+    with tempfile.TemporaryDirectory(prefix="must-fail-") as rooms, concurrent.futures.ThreadPoolExecutor(len(os.sched_getaffinity(0))) as threads:
         # those that take longest come first
         order = sorted(edits, key=lambda crate: -len(edits[crate]) * len(below(crate)))
         wrong = dict(zip(order, threads.map(lambda crate: tried(crate, edits[crate], pathlib.Path(rooms, crate)), order)))

@@ -2,7 +2,8 @@
 // and its statement'). All that it keeps lies in arrays of `main`.
 #![tactic(auto)]
 
-ghost use Rattle.std.specs.Prelude.{◌≤◌, length, take};
+ghost use Rattle.std.specs.Prelude.{◌≡◌, ◌≤◌, true, length, take};
+ghost use Rattle.std.specs.Io.KnownBytes.{Appends};
 ghost use Rattle.lines.specs.Fields.{longest};
 ghost use Rattle.statement.specs.Statement.{room_for};
 ghost use Rattle.file_lines.specs.State.{kept, Lent, Valid};
@@ -46,8 +47,9 @@ fn take_part(
     feed(file, &part[..n], line, columns, profile, allotted, accounts)
 }
 
-// Feeds what standard input holds, part by part, to its end. No contract says where `whole` is true: `read` alone knows of the end. Nothing
-// says that an input ends, so the turns are counted down, from a number that no run uses up.
+// Feeds what the input holds, part by part, to its end. Where the reader says what it gives, these are its bytes, each once, and all of them where
+// `whole` is true. Standard input says nothing: `read` alone knows of its end. Nothing says that an input ends, so the turns are counted down, from a
+// number that no run uses up.
 fn take_input<R: Read>(
     input: &mut R,
     file: MonthFile,
@@ -60,7 +62,7 @@ fn take_input<R: Read>(
 ) -> Input
     requires longest_in_bounds { longest ≤ length line.old }
     requires valid { Valid file (kept columns.old profile.old allotted.old accounts.old) }
-    ensures { Taken (place file (kept columns.old profile.old allotted.old accounts.old) line.old) (place result.file (kept columns.new profile.new allotted.new accounts.new) line.new) }
+    ensures { Taken (R.remaining input.old) (R.remaining input.new) (length part.old) result.whole (place file (kept columns.old profile.old allotted.old accounts.old) line.old) (place result.file (kept columns.new profile.new allotted.new accounts.new) line.new) }
 {
     let mut file = file;
     let mut turns = u64::MAX;
@@ -83,7 +85,7 @@ fn take_input<R: Read>(
     Input { file, whole }
 }
 
-// Settles the file on standard input: what is to be printed stands at the front of the text. Answers its length, or 0 where the input cannot be
+// Settles the file that the input holds: what is to be printed stands at the front of the text. Answers its length, or 0 where the input cannot be
 // read to its end.
 fn settle_input<R: Read>(
     input: &mut R,
@@ -97,10 +99,12 @@ fn settle_input<R: Read>(
 ) -> usize
     requires longest_in_bounds { (longest ≤ length line.old) × (room_for 512 ≤ length text.old) }
     requires lent { Lent (kept columns.old profile.old allotted.old accounts.old) }
-    ensures { Settled text.old result text.new }
+    ensures { Settled (R.remaining input.old) (length part.old) text.old result text.new }
 {
     let file = fresh();
-    let taken = take_input(input, file, part, line, columns, profile, allotted, accounts);
+    let taken = take_input(
+        input, file, part, line, columns, profile, allotted, accounts,
+    );
     if !taken.whole {
         return 0;
     }
@@ -108,9 +112,16 @@ fn settle_input<R: Read>(
     finish(end, line, columns, profile, allotted, accounts, text)
 }
 
+// Writes all of the bytes, or answers no.
+fn wrote<W: Write>(output: &mut W, bytes: &[u8]) -> bool
+    ensures { result ≡ true → Appends (W.contents output.old) (W.contents output.new) bytes.now }
+{
+    output.write_all(bytes).is_ok()
+}
+
 // Writes a line to standard error. Where that fails too, nobody can be told.
 fn tell(rt: &HostRuntime, line: &[u8]) {
-    let _ = rt.stderr().write_all(line);
+    wrote(&mut rt.stderr(), line);
 }
 
 fn main(rt: HostRuntime) {
@@ -135,7 +146,7 @@ fn main(rt: HostRuntime) {
         tell(&rt, b"settle-month: standard input cannot be read\n");
         return;
     }
-    if rt.stdout().write_all(&text[..length]).is_err() {
+    if !wrote(&mut rt.stdout(), &text[..length]) {
         tell(&rt, b"settle-month: standard output cannot be written\n");
     }
 }

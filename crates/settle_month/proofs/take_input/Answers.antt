@@ -1,0 +1,16 @@
+-- `take_input` meets its contract: what was fed so far are the bytes that the reader gave so far. Assumes nothing.
+use Rattle.settle_month.proofs.Parts.{taking, taking_more}
+use Rattle.settle_month.proofs.take_input.Goals as goal
+
+pub loop-turns-init : goal.loop-turns-init
+loop-turns-init g c = taking c.requires.longest_in_bounds c.requires.valid
+
+pub loop-turns-preserved : goal.loop-turns-preserved
+loop-turns-preserved g c = let w = c.take_part-file in
+    taking_more c.loop-turns.invariant c.read.auto.buf c.in-Ok.ensures.bytes.0 w.ensures (record {
+      bytes = w.auto.line;
+      columns = w.auto.columns;
+      profile = w.auto.profile;
+      allotted = w.auto.allotted;
+      accounts = w.auto.accounts;
+    })

@@ -144,7 +144,7 @@ module _ (s : Sizes) (plants : List Plant) (full : ltb (length plants) s.plants 
   profiled k profile [] gs l h g r a =
       let last = count [] (s.periods - length profile) 3 h.starts in
       let e : length profile ≡ s.periods = omega (arith, l, last) in
-      rw (eq-eqb _ _ e, append-nil profile) (opened_on k profile e gs g r (rw (append-nil profile) at a))
+      rw (eq-eqb _ _ e, append-nil profile) (opened_on k profile e gs g r (subst (λ (p : List ℕ). Calls plants p s.tariff gs) (append-nil profile) a))
   profiled k profile (x ∷ hs) gs l h g r a =
       let q = after_one h in
       let some = q.1 in

@@ -38,7 +38,7 @@ module _ (plants : List Plant) (profile : List ℕ) where
   works s hs [] a = accepted _ hs (λ _. hs) (head-eq_of_cons-eq a)
   works s hs (g ∷ gs) a =
       ap (λ (q : List Hour). hours q (rest s g gs)) (accepted _ (hour hs g ∷ hs) (λ _. hs) (head-eq_of_cons-eq a))
-      ∙ works _ (hour hs g ∷ hs) gs (tail-eq_of_cons-eq a)
+      ∙ works (next s (settles plants profile g (replicate (4 * length plants) 0))) (hour hs g ∷ hs) gs (tail-eq_of_cons-eq a)
 
   module _ (p tariff : ℕ) where
     abbrev counted : List Hour → ℕ → Option Tally
@@ -51,7 +51,7 @@ module _ (plants : List Plant) (profile : List ℕ) where
     counts s hs (g ∷ gs) a =
         ap (λ (q : Option Tally). tally q (rest s g gs))
         (accepted _ (counted (hour hs g ∷ hs) (length hs + 1)) (λ _. some (tally_of p tariff hs)) (head-eq_of_cons-eq a) ∙ ap (counted (hour hs g ∷ hs)) (add-one (length hs)))
-        ∙ counts _ (hour hs g ∷ hs) gs (tail-eq_of_cons-eq a)
+        ∙ counts (next s (settles plants profile g (replicate (4 * length plants) 0))) (hour hs g ∷ hs) gs (tail-eq_of_cons-eq a)
 
 -- ... after the open
 module _ (plants : List Plant) (profile : List ℕ) (tariff : ℕ) (metered : List (List ℕ)) (a : Accepted (unopened plants) (file_calls plants profile tariff metered)) where

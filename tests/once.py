@@ -28,7 +28,7 @@ SIX = 6
 # has no update of a record; the frame of a function's proof, and there an answer that is at hand or left to `search`.
 BARE = re.compile(
     r"(ghost |pub )?use |(pub )?mod |(&mut |&)?\w+(\.\w+)*(\[[^]]*\])?,$|[\w-]+\)*$|(?P<field>\w+) = \w+\.(?P=field);$"
-    r"|(abbrev |pub )*(?P<goal>\S+) : goal\.(?P=goal)$|\S+ (c|_) = (refl|tt|search [\w-]+|omega arith|c(\.[\w-]+)+)$"
+    r"|(abbrev |pub )*\S+ :( goal\.\S+)?$|goal\.\S+$|\S+ (g )?(c|_) = (refl|tt|search [\w-]+|omega arith|c(\.[\w-]+)+)$"
 )
 # What document 01 names and nothing in this repository calls: it is for callers in Rattle.
 PUBLIC = {
@@ -130,11 +130,11 @@ class Source:
             self.words[name].update(*(words for _, words in around))
             if shown := re.match(MARKS + r"\S+ : (\w+)$", line):
                 self.shows[name] = shown[1]
-            # what the prover asks for by its name
-            if re.match(MARKS + r"(\S+) : goal\.\1$", line):
-                self.answers.append(name)
         elif name and self.last in self.fields:
             self.fields[self.last].add(name)
+        # what the prover asks for by its name
+        if self.last and re.fullmatch(rf"(?:.* : )?goal\.{re.escape(self.last)}", line):
+            self.answers.append(self.last)
         if self.last:
             self.words[self.last].update(self.words_of(line))
 

@@ -4,21 +4,20 @@ use mathlib.Core.List.{List, [], ◌∷◌, ◌++◌, flatten}
 use Prim.Native.Nat.{ℕ, ◌≤◌}
 use native.Mathlib.Omega.{arith}
 use mathlib.Core.Bool.{Bool, true, false, true≢false}
-use lib.ListN.{length, drop, length-append}
+use lib.ListN.{length}
 use Rattle.std.proofs.Common.{append_assoc, append-nil}
 use Rattle.std.proofs.KnownBytes.{Consumes-nil, Consumes-trans, Consumes-whole}
 use Rattle.std.specs.Io.KnownBytes.{Consumes}
 use Rattle.std.specs.declared.option.Option.{Option}
 use Rattle.statement.specs.Writing.{Fills}
 use Rattle.file_lines.specs.declared.MonthFile.{MonthFile}
-use Rattle.file_lines.specs.File.{settled_file}
 use Rattle.month_file.specs.Bytes.{finished}
 use Rattle.file_lines.specs.State.{Kept, Valid}
 use Rattle.month_file.specs.Machine.{reading_of, Fresh, Fed}
 use Rattle.month_file.specs.Run.{Place, place, Feeds, none, more}
 use Rattle.month_file.proofs.Parts.{Alike, alike_self, alike_more}
 use Rattle.month_file.proofs.Run as run
-use Rattle.settle_month.specs.Input.{Taken, Settled, unread, written}
+use Rattle.settle_month.specs.Input.{Taken, Settled, written}
 
 -- one part more
 feeds_more : {a b c : Place} {parts : List (List ℕ)} {part : List ℕ} → Feeds a parts b → Fed b.file b.lists b.line part c.file c.lists c.line
@@ -85,9 +84,3 @@ module _ {had left : Option (List ℕ)} {room : ℕ} {whole : Bool} {f₀ : Mont
   taken-written w h =
       written t.parts (λ r. Consumes-whole had left (flatten t.parts) (λ xs. flatten t.parts ≡ xs) t.given (t.ended w r) refl)
       ((run.promised).written s t.fed h)
-
--- what is answered is no more than the text has
-pub settled-fits : {had : Option (List ℕ)} {room : ℕ} {before : List ℕ} {n : ℕ} {after : List ℕ} → Settled had room before n after → n ≤ length after
-settled-fits (unread z e) = omega arith
-settled-fits {before = before} (written parts all h) =
-    omega (arith, h.size, ap length h.text, length-append (settled_file (flatten parts)) (drop (length (settled_file (flatten parts))) before))

@@ -32,7 +32,7 @@ LOGS = ROOT / "target" / "must-fail"
 # another fact than the one expected.
 FACT = re.compile(
     r"`(omega|search|grind|rw|simp|cc|grw)`(:| does not read)|give a proof of that as the last argument"
-    r"|the two (types|values|sides) (first )?differ|expected type `[^` ]+ [^`]*`|does not hold \(this comparison"
+    r"|the two (types|values|sides) ((first )?differ|are `)|expected type `[^` ]+ [^`]*`|does not hold \(this comparison"
 )
 # Two types that differ are both facts, or nothing is shown: where one is that of a value, or a goal by its name, the proof file no longer
 # fits the code.

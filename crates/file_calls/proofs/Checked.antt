@@ -1,12 +1,12 @@
 -- What feed and finish need, decided at run time, and the promises of `specs/Checking`. Assumes nothing.
 use mathlib.Core.Path.{◌≡◌, refl, sym, subst, ◌∙◌}
 use mathlib.Core.Logic.{by_cases}
-use mathlib.Core.Bool.{Bool, true, false, false≢true, not}
+use mathlib.Core.Bool.{Bool, true, false, false≢true}
 use mathlib.Core.List.{List}
 use Prim.Native.Nat.{ℕ, ◌≤◌}
 use native.Mathlib.Omega.{arith}
 use native.Mathlib.Decide.{ℕ_discrete}
-use borrow.Author.Tests.{eqb-true, eqb-false, not-true, not-false}
+use borrow.Author.Tests.{eqb-true, eqb-false}
 use lib.Dec.{eqb}
 use lib.ListN.{length}
 use Rattle.lines.specs.Fields.{longest}
@@ -38,13 +38,6 @@ by_equal m n = record { yes = eqb-true m n; no = eqb-false m n }
 
 pub by_value : (b r : Bool) → r ≡ b → Decides (b ≡ true) r
 by_value b r e = record { yes = λ t. sym e ∙ t; no = λ f t. false≢true (sym f ∙ e ∙ t) }
-
--- a call has decided, and `if !` has asked it
-pub denied : {holds : Type 0} (b : Bool) → Decides holds b → not b ≡ true → holds → ⊥
-denied b d e = d.no (not-true b e)
-
-pub granted : {holds : Type 0} (b : Bool) → Decides holds b → not b ≡ false → holds
-granted b d e = d.yes (not-false b e)
 
 -- ---- what is answered
 

@@ -3,8 +3,7 @@ use mathlib.Core.Path.{◌≡◌, refl, sym, ap, ◌∙◌}
 use mathlib.Core.Logic.{by_cases}
 use mathlib.Core.Bool.{Bool, true, false, false≢true, ◌&&◌, and_assoc, and-true}
 use mathlib.Core.List.{List, [], ◌∷◌, ◌++◌, map, append_assoc, append-nil}
-use Prim.Native.Nat.{ℕ, ◌+◌, ◌-◌, ◌≤◌, ◌<◌, zero-le}
-use native.Mathlib.Nat.{zero-add}
+use Prim.Native.Nat.{ℕ, ◌+◌, ◌-◌, ◌≤◌, ◌<◌}
 use native.Mathlib.Numerals.{add-one}
 use native.Mathlib.Decide.{dec_lt}
 use native.Mathlib.Omega.{arith}
@@ -37,9 +36,6 @@ pub record Gathering (line : List ℕ) (from : ℕ) (figures₀ : List ℕ) (at 
   pub kept : drop count figures ≡ drop count figures₀
 
 module _ {line : List ℕ} {from : ℕ} {figures₀ : List ℕ} where
-  pub gathering : from ≤ length line → Gathering line from figures₀ from true 0 figures₀
-  gathering h = record { inside = h; turns = zero-le; same = refl; counted = zero-add _; tested = refl; written = refl; kept = refl }
-
   module _ {at : ℕ} {good : Bool} {count : ℕ} {figures : List ℕ} (g : Gathering line from figures₀ at good count figures) (room : count < length figures)
       {f : List ℕ} (this : f ≡ first_field (drop at line)) {v : ℕ} {ok : Bool} (r : ReadAs (is_figure f) f ok v) {good' : Bool} (both : good' ≡ (good && ok)) where
     stored : v ≡ worth (first_field (drop at line))

@@ -1,4 +1,3 @@
 -- Laws of the transfer step.
 pub mod Served
-pub mod Same
 pub mod Asked

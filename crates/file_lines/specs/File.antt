@@ -1,4 +1,4 @@
--- The month file, from its bytes to the bytes that `settle_month` prints (document 01, 'The file and its statement'). Assumes nothing.
+-- The month file, from its bytes to the bytes that `settle-month` prints (document 01, 'The file and its statement'). Assumes nothing.
 use Rattle.std.specs.Prelude.{ℕ, ◌+◌, ◌*◌, Bool, true, false, cond, ◌&&◌, List, [], ◌∷◌, ◌++◌, map, eqb, leb, ltb, length, drop, get_or, replicate}
 use Rattle.lists.specs.Questions.{outcome}
 use Rattle.figures.specs.Figures.{figure, value}
@@ -143,6 +143,6 @@ unfoldable pub following : ℕ → Progress → List FileLine → List ℕ
 following k p [] = printed k p
 following k p (l ∷ ls) = following (k + 1) (next (k + 1) p l) ls
 
--- The file: what `settle_month` prints for the bytes that it reads
+-- The file: what `settle-month` prints for the bytes that it reads
 unfoldable pub settled_file : List ℕ → List ℕ
 settled_file bytes = following 0 begins (lines bytes)

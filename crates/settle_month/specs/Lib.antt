@@ -1,2 +1,2 @@
--- The program `settle_month`: what it makes of the parts that it reads.
+-- The program `settle-month`: what it makes of the parts that it reads.
 pub mod Input

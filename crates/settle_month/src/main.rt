@@ -1,4 +1,4 @@
-// `settle_month`: reads a month file from standard input and writes its statement, or the refusal, to standard output (document 01, 'The file
+// `settle-month`: reads a month file from standard input and writes its statement, or the refusal, to standard output (document 01, 'The file
 // and its statement'). All that it keeps lies in arrays of `main`.
 #![tactic(auto)]
 

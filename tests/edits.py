@@ -85,10 +85,19 @@ def left_open(log, place):
     return []
 
 
+def said_at(log, place):
+    at = {f"proofs/{place}.antt", f"{place}.antt", *(f"proofs/{place}/{file}.antt" for file in ("Answers", "Invariants", "Proof"))}
+    return [text for file, text in errors(log) if file in at]
+
+
+def loses_a_name(log, place):
+    """Does the edit take a goal's name away too, beside the fact that fails?"""
+    return any(NO_NAME.search(text) for text in said_at(log, place))
+
+
 def refused(log, place):
     """None where the log shows that a fact fails at the place, else why not."""
-    at = {f"proofs/{place}.antt", f"{place}.antt", *(f"proofs/{place}/{file}.antt" for file in ("Answers", "Invariants", "Proof"))}
-    here = [text for file, text in errors(log) if file in at]
+    here = said_at(log, place)
     if any(FACT.search(text) and not any(other.search(text) for other in (NO_FACT, NO_NAME, AFTER)) for text in here):
         return None
     if any(NO_NAME.search(text) for text in here):
@@ -196,6 +205,7 @@ def main(names):
         # those that take longest come first
         order = sorted(edits, key=lambda crate: -len(edits[crate]) * len(below(crate)))
         wrong = dict(zip(order, threads.map(lambda crate: tried(crate, edits[crate], pathlib.Path(rooms, crate)), order)))
+    beside = []
     for crate in edits:
         for edit in edits[crate]:
             answers, log = wrong_answers(edit), LOGS / crate / f"{edit.stem}.log"
@@ -208,6 +218,9 @@ def main(names):
                 else:
                     why = wrong[crate].get(edit.stem) or refused(log.read_text(), place)
                 check(not why, f"{crate}/{edit.stem}, {name}: {why}")
+                if not why and loses_a_name(log.read_text(), place):
+                    beside.append(f"{crate}/{edit.stem}, {name}")
+    print(f"{len(beside)} of these also take a goal's name away, beside the fact that fails: {'; '.join(beside)}")
     return counted()
 
 

@@ -1,6 +1,6 @@
 /* Settles a month file from standard input, in parts of any size and in constant memory:
  *
- *   rt staticlib recorder
+ *   (cd crates/recorder && rt lib)
  *   cc -Iinclude examples/c/file.c crates/recorder/out/librecorder.a -o file
  *   ./file < examples/month.mre
  *

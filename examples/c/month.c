@@ -1,6 +1,6 @@
 /* Settles a month file through the library, line by line and in constant memory:
  *
- *   rt staticlib recorder
+ *   (cd crates/recorder && rt lib)
  *   cc -Iinclude examples/c/month.c crates/recorder/out/librecorder.a -o month
  *   ./month < examples/month.mre
  *

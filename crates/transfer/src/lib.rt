@@ -26,7 +26,7 @@ pub struct Transferred {
     pub table: Table,
 }
 
-// The one function that makes a Table: it is walked by hand.
+// The one function that makes a Table.
 pub fn table_of(rows: [[u64; 4]; 4]) -> Table
     ensures { result.rows ≡ rows }
 {

@@ -23,7 +23,7 @@
  * For a whole month file there is iolwarch_workspace: begin, feed the bytes in parts of any size, finish.
  *
  * Stack. A call needs at most IOLWARCH_STACK bytes of its thread's stack, its arguments and its answer included,
- * whatever the size of the month; settle needs most. The figure is measured on the archive as built (tests/c/stack.c),
+ * whatever the size of the month; feeding a file needs most. The figure is measured on the archive as built (tests/c/stack.c),
  * has a margin, and is not proved. What signal handlers need on that stack comes on top.
  */
 #ifndef IOLWARCH_H

@@ -82,8 +82,8 @@ class Source:
                 self.use(line[6:].rstrip(";"))
             elif taken := re.match(r"use (?:\w+::)*(?:(\w+)|{(.*)});", line):
                 self.taken.update([taken[1]] if taken[1] else taken[2].split(", "))
-            elif open_braces or re.match(r" *(?:requires|ensures)\b", line):
-                clause = line if open_braces else re.sub(r" *(?:requires|ensures)(?: \w+)?(?= {|$)", "", line)
+            elif open_braces or re.match(r" *(?:requires|ensures|(?:pub )?ghost)\b", line):
+                clause = line if open_braces else re.sub(r" *(?:requires|ensures|(?:pub )?ghost)(?: \w+)?(?= {|:| =|$)", "", line)
                 self.words[""].update(self.words_of(clause))
                 open_braces += clause.count("{") - clause.count("}")
             else:

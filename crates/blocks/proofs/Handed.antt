@@ -1,8 +1,8 @@
 -- A loop that gives rows their parts: the want of a row falls, and its figure in one column rises. Assumes nothing.
-use mathlib.Core.Path.{◌≡◌, refl, sym, ap, ◌∙◌, subst}
+use mathlib.Core.Path.{◌≡◌, refl, sym, ap, ◌∙◌}
 use mathlib.Core.Bool.{cond}
 use mathlib.Core.Logic.{by_cases}
-use mathlib.Core.List.{List, []}
+use mathlib.Core.List.{List}
 use Prim.Native.Nat.{ℕ, ◌+◌, ◌-◌, ◌*◌, ◌≤◌, ◌<◌}
 use native.Mathlib.Omega.{arith}
 use native.Mathlib.Decide.{ℕ_discrete, dec_lt}
@@ -11,12 +11,10 @@ use lib.ListN.{length, get_or, take, set, length-set}
 use lib.Seq.{take_all, get_or-take, get_or-set_same, get_or-set_other, ext_get_or}
 use borrow.Author.Tests.{eq-eqb, ne_eqb}
 use borrow.Author.Rules.{rules}
-use mir.Syntax.{w64}
-use mir.Val.{Fits}
-use Rattle.lists.specs.Columns.{◌⊖◌, Below}
+use Rattle.lists.specs.Columns.{◌⊖◌}
 use Rattle.lists.proofs.Parts.{past_take}
 use Rattle.lists.proofs.Columns.{◌!◌, at-⊖, cond_same, length-rowwise}
-use Rattle.blocks.specs.Blocks.{Raised, in_column, Room}
+use Rattle.blocks.specs.Blocks.{Raised, in_column}
 
 module _ {A : Type 0} (d : A) where
   -- one more is taken: what was there
@@ -63,15 +61,6 @@ pub record Handing (column : ℕ) (part want₀ figures₀ want figures : List �
   pub rises : Raised (in_column column (take i part)) figures₀ figures
 
 module _ {column : ℕ} {part want₀ figures₀ : List ℕ} where
-  pub handing : Handing column part want₀ figures₀ want₀ figures₀ 0
-  handing =
-      record {
-        turns = omega arith;
-        same = refl;
-        falls = λ k. omega arith;
-        rises = raise_nothing (λ i j. no_rise column [] i j refl);
-      }
-
   pub handing_more : {want figures : List ℕ} {i : ℕ} → Handing column part want₀ figures₀ want figures i → i < length part
       → length part ≤ length want₀ → 4 * length part ≤ length figures₀ → column < 4
       → Handing column part want₀ figures₀ (set want i (want ! i - part ! i))
@@ -109,18 +98,6 @@ module _ {column : ℕ} {part want₀ figures₀ : List ℕ} where
           same_row : (j ≡ column → ⊥) → in_column column (take (i + 1) part) a j ≡ in_column column (take i part) a j
           same_row q = rw (ne_eqb j column q) refl
 
-  -- the row and its figure before they are written
-  pub handing_part : {want figures : List ℕ} {i : ℕ} → Handing column part want₀ figures₀ want figures i → Below part want₀ → part ! i ≤ want ! i
-  handing_part {i = i} k below = let a = k.falls i in let b = past_take 0 i part i (omega arith) in let c = below i in omega arith
-
-  pub handing_room : {want figures : List ℕ} {i : ℕ} → Handing column part want₀ figures₀ want figures i → column < 4
-      → Below part want₀ → Room want₀ figures₀ → Fits w64 (figures ! (4 * i + column) + part ! i)
-  handing_room {figures = figures} {i = i} k inside below room =
-      let a = k.rises.by i column inside in
-      let b = no_rise column (take i part) i column (past_take 0 i part i (omega arith)) in
-      let c = room.at i column inside in let d = below i in
-      record { fits = omega arith }
-
   -- at the end
   pub handed : {want figures : List ℕ} {i : ℕ} → Handing column part want₀ figures₀ want figures i → length part ≤ i → length part ≤ length want₀
       → want ≡ want₀ ⊖ part
@@ -129,8 +106,4 @@ module _ {column : ℕ} {part want₀ figures₀ : List ℕ} where
       (k.same ∙ (let a = length-rowwise ◌-◌ 0 0 want₀ part in omega arith))
       (λ m _. k.falls m ∙ ap (λ l. want₀ ! m - l ! m) (take_all i part h) ∙ sym (at-⊖ want₀ part m))
 
-  pub handed_raised : {want figures : List ℕ} {i : ℕ} → Handing column part want₀ figures₀ want figures i → length part ≤ i
-      → Raised (in_column column part) figures₀ figures
-  handed_raised {figures = figures} {i = i} k h = subst (λ l. Raised (in_column column l) figures₀ figures) (take_all i part h) k.rises
-
-pub ruleset handings = (handing, handing_more, handing_part, handing_room, handed, handed_raised, rules)
+pub ruleset handings = (handing_more, handed, rules)

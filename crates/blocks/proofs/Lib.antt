@@ -1,6 +1,6 @@
 -- Laws of rows that stand in blocks, and those that the code goes by.
 pub mod Portion
-pub mod Blocks
+pub mod Standing
 pub mod Handed
 pub mod Starts
 pub mod Slices

@@ -10,8 +10,6 @@ use native.Mathlib.Decide.{dec_lt}
 use lib.Dec.{eqb}
 use lib.ListN.{length, get_or, take, drop, length-take, length-drop, drop_of_length-le, length-append, get_or-append}
 use lib.Seq.{take_all, take_at, get_or-take, get_or-drop, get_or-append-add, ext_get_or}
-use mir.Syntax.{w64}
-use mir.Val.{Fits}
 use Rattle.lists.specs.Lists.{sum}
 use Rattle.lists.specs.Columns.{◌⊖◌, Below}
 use Rattle.lists.proofs.Parts.{part_at, part-back, take-le, past_take}
@@ -19,8 +17,8 @@ use Rattle.lists.proofs.Rows.{at-replicate}
 use Rattle.lists.proofs.Columns.{◌!◌, at-⊖, sum_tight, length-rowwise, rowwise-nothing}
 use Rattle.sharing.specs.Sharing.{share}
 use Rattle.sharing.proofs.Sharing.{share-lawful, adds-le}
-use Rattle.blocks.specs.Blocks.{standing_at, Rising, Raised, in_column, in_columns, Room}
-use Rattle.blocks.proofs.Slices.{block, end_below, row_in}
+use Rattle.blocks.specs.Blocks.{standing_at, Raised, in_column, in_columns, Room}
+use Rattle.blocks.proofs.Slices.{Rising, block, end_below, row_in}
 use Rattle.blocks.proofs.Handed.{no_rise, raise_nothing}
 
 module _ (n : ℕ) (want : List ℕ) (short : n ≤ length want) where
@@ -35,8 +33,8 @@ module _ (n : ℕ) (want : List ℕ) (short : n ≤ length want) where
   parts_below t h i = let a = share-lawful.bounded t (take n want) h i in let b = take-le n want i in omega arith
 
 -- the whole sum shared: each part is its weight
-pub share-whole : (ws : List ℕ) → share (sum ws) ws ≡ ws
-share-whole ws =
+pub share_whole : (ws : List ℕ) → share (sum ws) ws ≡ ws
+share_whole ws =
     ext_get_or 0 (share (sum ws) ws) ws (share-lawful.sized (sum ws) ws)
     (λ i _. sum_tight (share (sum ws) ws) ws (share-lawful.bounded (sum ws) ws (le_refl (sum ws))) (le_of_eq (sym (adds-le share-lawful (sum ws) ws (le_refl (sum ws))))) i)
 
@@ -64,9 +62,6 @@ module _ (l x : List ℕ) (a : ℕ) (inside : a ≤ length l) where
 -- the part that is lent
 pub lent_at : (l : List ℕ) (a k : ℕ) → take (length l - a) (drop a l) ! k ≡ l ! (a + k)
 lent_at l a k = ap (λ m. m ! k) (take_all (length l - a) (drop a l) (le_of_eq (length-drop a l))) ∙ get_or-drop a l k 0
-
-pub lent-long : (l : List ℕ) (a e : ℕ) → e ≤ length l → e - a ≤ length (take (length l - a) (drop a l))
-lent-long l a e h = let b = length-take (length l - a) (drop a l) in let c = length-drop a l in omega arith
 
 pub tail_length : (l x : List ℕ) (a : ℕ) → a ≤ length l → length x ≡ length (take (length l - a) (drop a l))
     → length (take a l ++ (x ++ drop (length l - a) (drop a l))) ≡ length l
@@ -274,10 +269,3 @@ module _ {starts columns p want₀ figures₀ : List ℕ} (up : Rising starts (l
 
     pub blocked_raised : Blocked starts columns p want₀ figures₀ want figures s → 4 ≤ s → Raised (in_columns columns (standing_at starts) p) figures₀ figures
     blocked_raised k h = subst (λ l. Raised (in_columns columns (standing_at starts) l) figures₀ figures) (all k h) k.rises
-
--- the turns of a loop over the four
-pub turn-fits : {s : ℕ} → s < 4 → Fits w64 (s + 1)
-turn-fits h = record { fits = omega arith }
-
-pub turn_less : {s : ℕ} → s < 4 → 4 - (s + 1) < 4 - s
-turn_less h = omega arith

@@ -11,13 +11,23 @@ use Rattle.lists.specs.Lists.{sum}
 use Rattle.lists.specs.Columns.{Below, totals}
 use Rattle.lists.proofs.Columns.{◌!◌, at-map-sum, below-four}
 use Rattle.lists.proofs.Parts.{part-back}
-use Rattle.lists.proofs.Sums.{get_or-table}
+use Rattle.lists.proofs.Sums.{get_or-table, part-le-sum}
 use Rattle.sharing.specs.Laws.{Lawful}
 use Rattle.sharing.specs.Sharing.{Rule}
+use Rattle.blocks.specs.declared.Blocks.{Blocks}
 use Rattle.blocks.specs.Portion.{portion}
-use Rattle.blocks.specs.Blocks.{block_rows, standing_at, Rising}
+use Rattle.blocks.specs.Blocks.{block_rows, standing_at}
 use Rattle.blocks.proofs.Portion.{portion-sized}
-use Rattle.blocks.proofs.Blocks.{Blocks, cut₁, cut₂, cut₃, cut₄, totals-rows, portion-rows}
+use Rattle.blocks.proofs.Standing.{InBlocks, cut₁, cut₂, cut₃, cut₄, totals-rows, portion-rows}
+
+-- the blocks lie one behind the other and take up n rows
+pub record Rising (starts : List ℕ) (n : ℕ) : Type 0 where
+  pub first : get_or starts 0 0 ≡ 0
+  pub next : (s : ℕ) → s < 4 → get_or starts s 0 ≤ get_or starts (s + 1) 0
+  pub last : get_or starts 4 0 ≡ n
+
+pub rising : (blocks : Blocks) (n : ℕ) → n ≡ get_or blocks.starts 4 0 → Rising blocks.starts n
+rising blocks n e = record { first = blocks.first; next = blocks.next; last = sym e }
 
 -- the rows of block s, counted from 0
 abbrev pub block : List ℕ → List ℕ → ℕ → List ℕ
@@ -47,7 +57,7 @@ module _ (starts : List ℕ) (n : ℕ) (up : Rising starts n) where
       let p = up.next 1 (omega arith) in let q = up.next 2 (omega arith) in let r = up.next 3 (omega arith) in let l = up.last in
       record { at0 = up.first; b≤c = omega arith; c≤d = omega arith; d≤n = omega arith; at4 = up.last }
 
-  in_blocks : Blocks (standing_at starts)
+  in_blocks : InBlocks (standing_at starts)
   unfolding standing_at
   in_blocks = record { rows₁ = block_rows starts 1; rows₂ = block_rows starts 2; rows₃ = block_rows starts 3; rows₄ = block_rows starts 4; are = refl }
 
@@ -177,3 +187,10 @@ module _ (starts : List ℕ) (n : ℕ) (up : Rising starts n) where
 
           long : (s : ℕ) → s < 4 → length (x s) ≡ get_or starts (s + 1) 0 - get_or starts s 0
           long s h = L.sized (amounts ! s) (get_or cuts s []) ∙ ap length (cut s h) ∙ block_length s h
+
+-- the sum of a submarket, as its block's rows have it
+pub total_sums : (blocks : Blocks) (figures : List ℕ) (s : ℕ) → length figures ≡ get_or blocks.starts 4 0 → s < 4
+    → (totals (standing_at blocks.starts) figures ! s ≡ sum (block blocks.starts figures s)) × (sum (block blocks.starts figures s) ≤ sum figures)
+total_sums blocks figures s e h =
+    let a : ℕ = get_or blocks.starts s 0 in
+    (total_block blocks.starts (length figures) (rising blocks _ e) figures refl s h, part-le-sum figures a (get_or blocks.starts (s + 1) 0 - a))

@@ -5,14 +5,20 @@ use mathlib.Core.List.{List, [], ◌∷◌, ◌++◌, append-nil}
 use Prim.Native.Nat.{ℕ, zero, suc, ◌+◌, ◌-◌, ◌≤◌, ◌<◌}
 use native.Mathlib.Omega.{arith}
 use lib.Dec.{leb}
-use lib.ListN.{length, get_or, drop, replicate, length-append, length-replicate}
-use borrow.Author.Rules.{rules}
+use lib.ListN.{length, get_or, take, drop, replicate, length-append, length-drop, length-replicate}
+use lib.Seq.{take_all}
+use native.Mathlib.Nat.{le_of_eq}
 use borrow.Author.Tests.{leb-true, le-leb, lt-leb}
-use Rattle.lists.proofs.Columns.{◌!◌, below-four}
-use Rattle.lists.proofs.Loops.{rest_more, rest-none}
+use Rattle.lists.proofs.Columns.{below-four}
+use Rattle.std.specs.List.{take_while}
+use Rattle.std.proofs.lemmas.List.Sums.{take_while-cons}
+use Rattle.plants.specs.declared.Plant.{Plant}
+use Rattle.plants.specs.Plants.{submarkets_of}
+use Rattle.plants.proofs.Submarkets.{submarkets-drop}
 use Rattle.blocks.specs.Portion.{Standing}
-use Rattle.blocks.specs.Blocks.{leading, block_starts, standing_at, Rising}
-use Rattle.blocks.proofs.Blocks.{Blocks, standing_blocks}
+use Rattle.blocks.specs.Blocks.{leading, block_starts, standing_at}
+use Rattle.blocks.proofs.Slices.{Rising}
+use Rattle.blocks.proofs.Standing.{InBlocks, standing_blocks}
 
 leading-nil : (s : ℕ) → leading s [] ≡ 0
 unfolding leading
@@ -26,26 +32,16 @@ leading_stop : (s t : ℕ) (ts : List ℕ) → s < t → leading s (t ∷ ts) �
 unfolding leading
 leading_stop s t ts h = rw (lt-leb t s h)
 
--- ---- the loop: the rows from a up to i are in submarkets up to s
-pub record Running (s : ℕ) (subs : List ℕ) (a i : ℕ) : Type 0 where
-  pub turns : i ≤ length subs
-  pub whole : a + leading s (drop a subs) ≡ i + leading s (drop i subs)
-
-module _ {s : ℕ} {subs : List ℕ} {a : ℕ} where
-  pub running : a ≤ length subs → Running s subs a a
-  running h = record { turns = h; whole = refl }
-
-  pub running_more : {i : ℕ} → Running s subs a i → i < length subs → subs ! i ≤ s → Running s subs a (i + 1)
-  running_more {i} k h e =
-      record { turns = omega arith; whole = omega (arith, k.whole, rest_more (leading s) subs i 0 h, leading-more s (subs ! i) (drop (i + 1) subs) e) }
-
-  pub ran_out : {i : ℕ} → Running s subs a i → length subs ≤ i → i ≡ a + leading s (drop a subs)
-  ran_out {i} k h = omega (arith, k.whole, rest-none (leading s) subs i h, leading-nil s)
-
-  pub ran_past : {i : ℕ} → Running s subs a i → i < length subs → s < subs ! i → i ≡ a + leading s (drop a subs)
-  ran_past {i} k h e = omega (arith, k.whole, rest_more (leading s) subs i 0 h, leading_stop s (subs ! i) (drop (i + 1) subs) e)
-
-pub ruleset runs = (running, running_more, ran_out, ran_past, rules)
+-- the rows up to the first past s, as they are counted
+pub leading-taken : (s : ℕ) (plants : List Plant) → leading s (submarkets_of plants) ≡ length (take_while (λ (p : Plant). leb p.submarket s) plants)
+unfolding leading submarkets_of
+leading-taken s [] = refl
+leading-taken s (p ∷ plants) =
+    rw take_while-cons (go (leb p.submarket s) _ _ (leading-taken s plants))
+  where
+    go : (b : Bool) (n : ℕ) (taken : List Plant) → n ≡ length taken → cond b (suc n) 0 ≡ length (cond b (p ∷ taken) [])
+    go true n taken e = ap suc e
+    go false n taken e = refl
 
 -- ---- from one start to the next: the rows up to r, then those up to s
 pub leading-next : (r s : ℕ) → r ≤ s → (subs : List ℕ) → leading r subs + leading s (drop (leading r subs) subs) ≡ leading s subs
@@ -58,14 +54,14 @@ leading-next r s le (t ∷ ts) = go (leb t r) refl (leading-next r s le ts)
     go true e k = let h = leb-true t r e in let m = leading-more s t ts (omega arith) in omega arith
     go false e k = omega arith
 
-pub leading-short : (s : ℕ) (subs : List ℕ) → leading s subs ≤ length subs
-unfolding leading
-leading-short s [] = omega arith
-leading-short s (t ∷ ts) = go (leb t s) (leading-short s ts)
-  where
-    go : (b : Bool) → leading s ts ≤ length ts → cond b (suc (leading s ts)) 0 ≤ suc (length ts)
-    go true h = omega arith
-    go false h = omega arith
+-- .. where those behind row a are counted, a being the rows up to r
+pub leading-behind : (plants : List Plant) (r s : ℕ) {a n : ℕ} → r ≤ s → a ≡ leading r (submarkets_of plants)
+    → n ≡ length (take_while (λ (p : Plant). leb p.submarket s) (take (length plants - a) (drop a plants)))
+    → a + n ≡ leading s (submarkets_of plants)
+leading-behind plants r s {a} le p e =
+    ap (λ (m : ℕ). a + m) (e ∙ ap (λ (l : List Plant). length (take_while (λ (p : Plant). leb p.submarket s) l)) (take_all (length plants - a) (drop a plants) (le_of_eq (length-drop a plants)))
+    ∙ sym (leading-taken s (drop a plants)) ∙ ap (leading s) (submarkets-drop a plants))
+    ∙ rw p (leading-next r s le (submarkets_of plants))
 
 -- ---- rows that stand in blocks
 lead_in : (s t n : ℕ) (l : List ℕ) → t ≤ s → leading s (replicate n t ++ l) ≡ n + leading s l
@@ -76,7 +72,7 @@ lead_past : (s t n : ℕ) (l : List ℕ) → s < t → leading s l ≡ 0 → lea
 lead_past s t zero l h e = e
 lead_past s t (suc n) l h e = leading_stop s t (replicate n t ++ l) h
 
-module _ {subs : List ℕ} (B : Blocks subs) where
+module _ {subs : List ℕ} (B : InBlocks subs) where
   r₁ : ℕ
   r₁ = B.rows₁
 

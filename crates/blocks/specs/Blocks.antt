@@ -1,5 +1,5 @@
 -- The blocks of the rows, and what sharing over them leaves in the lent lists. Assumes nothing.
-use Rattle.std.specs.Prelude.{ℕ, suc, ◌+◌, ◌-◌, ◌*◌, ◌^◌, ◌≤◌, ◌<◌, ◌≡◌, cond, List, [], ◌∷◌, ◌++◌, leb, eqb, length, get_or, replicate}
+use Rattle.std.specs.Prelude.{ℕ, suc, ◌+◌, ◌-◌, ◌*◌, ◌^◌, ◌<◌, ◌≡◌, cond, List, [], ◌∷◌, ◌++◌, leb, eqb, length, get_or, replicate}
 
 -- how many rows, from the first on, stand in submarkets up to s
 unfoldable pub leading : ℕ → List ℕ → ℕ
@@ -18,12 +18,6 @@ block_rows starts s = get_or starts s 0 - get_or starts (s - 1) 0
 unfoldable pub standing_at : List ℕ → List ℕ
 standing_at starts =
     replicate (block_rows starts 1) 1 ++ (replicate (block_rows starts 2) 2 ++ (replicate (block_rows starts 3) 3 ++ replicate (block_rows starts 4) 4))
-
--- the blocks lie one behind the other and take up n rows
-pub record Rising (starts : List ℕ) (n : ℕ) : Type 0 where
-  pub first : get_or starts 0 0 ≡ 0
-  pub next : (s : ℕ) → s < 4 → get_or starts s 0 ≤ get_or starts (s + 1) 0
-  pub last : get_or starts 4 0 ≡ n
 
 -- four figures a row: what the figure of each row i in each column j (0 to 3) rises by
 pub record Raised (rise : ℕ → ℕ → ℕ) (before after : List ℕ) : Type 0 where

@@ -19,11 +19,11 @@ use Rattle.sharing.specs.Sharing.{share}
 use Rattle.transfer.specs.Laws.{row_sum}
 use Rattle.sharing.proofs.Sharing.{share-lawful}
 use Rattle.cover.specs.Cover.{own, own_parts, table, got, rest, supplied}
-use Rattle.blocks.specs.Blocks.{standing_at, Rising, Raised, in_columns, Room}
+use Rattle.blocks.specs.Blocks.{standing_at, Raised, in_columns, Room}
 use Rattle.cover.specs.Givers.{got_by, SentWithin}
 use Rattle.cover.proofs.Cover.{own-fits, own_under, supplied-sized, at-supplied, four-rows, sent_is, row_is, row_under}
 use Rattle.blocks.proofs.Portion.{totals_fall}
-use Rattle.blocks.proofs.Slices.{standing-length, portion-length, standing_in}
+use Rattle.blocks.proofs.Slices.{Rising, standing-length, standing_in}
 use Rattle.cover.proofs.Serving.{room-kept}
 
 pub room-first : (want figures : List ℕ) → Within figures (2 ^ 62) → sum want ≤ most → Room want figures
@@ -57,12 +57,6 @@ module _ (starts have want : List ℕ) (up : Rising starts (length want)) where
       → Raised (in_columns (0 ∷ 1 ∷ 2 ∷ 3 ∷ []) subs (own_parts share subs have want)) figures₀ figures₁ → Room (want ⊖ own_parts share subs have want) figures₁
   unfolding own_parts
   still_room = room-kept share-lawful subs (own share subs have want) want (own-fits share-lawful subs have want) (0 ∷ 1 ∷ 2 ∷ 3 ∷ [])
-
-  pub still_sized : length (want ⊖ own_parts share subs have want) ≡ length want
-  unfolding own_parts
-  still_sized =
-      length-rowwise ◌-◌ 0 0 want (own_parts share subs have want)
-      ∙ (let a = portion-length starts (length want) up share-lawful (own share subs have want) want refl in omega arith)
 
   module _ (four-have : length have ≡ 4) (enough : sum want ≤ sum have) where
     abbrev T : List (List ℕ)

@@ -7,7 +7,7 @@ use native.Mathlib.Omega.{arith}
 use native.Mathlib.Decide.{ℕ_discrete}
 use lib.Dec.{eqb}
 use lib.ListN.{length, get_or, take, drop}
-use lib.Seq.{take_all, drop-drop, get_or-take}
+use lib.Seq.{drop-drop, get_or-take}
 use borrow.Author.Tests.{eq-eqb, ne_eqb}
 use Rattle.lists.specs.Lists.{sum, Within}
 use Rattle.lists.specs.Columns.{◌⊖◌, Below, totals}
@@ -24,7 +24,7 @@ use Rattle.blocks.specs.Blocks.{Raised, in_column, in_columns, Room}
 use Rattle.cover.specs.Givers.{got_by, SentWithin}
 use Rattle.blocks.proofs.Portion.{portion_under, totals_fall}
 use Rattle.cover.proofs.Cover.{sent-first, sent_then}
-use Rattle.blocks.proofs.Handed.{raise_nothing, next-there}
+use Rattle.blocks.proofs.Handed.{next-there}
 
 -- what a giver sent is shared over the needs that are still open: there is room for the next
 pub room-kept : {rule : Rule} (L : Lawful rule) (subs amounts want : List ℕ) → Below amounts (totals subs want) → (columns : List ℕ) {figures after : List ℕ}
@@ -54,21 +54,6 @@ serve-cons subs want row rows = refl
 
 pub four-within : {a b c d : ℕ} → a < 4 → b < 4 → c < 4 → d < 4 → Within (a ∷ b ∷ c ∷ d ∷ []) 3
 four-within p q r s = record { at = four-le (λ _. 3) (omega arith) (omega arith) (omega arith) (omega arith) }
-
-module _ {subs : List ℕ} {table : List (List ℕ)} {want₀ figures₀ sums₀ : List ℕ} where
-  pub giving : sums₀ ≡ totals subs want₀ → SentWithin table sums₀ → Room want₀ figures₀
-      → Giving subs table (serve (portion share subs) want₀ table) want₀ figures₀ want₀ figures₀ sums₀ 0
-  giving e s r =
-      record {
-        turns = omega arith;
-        same = refl;
-        less = omega arith;
-        left = refl;
-        rises = raise_nothing (λ i j. refl);
-        still = e;
-        sent = s;
-        room = r;
-      }
 
 module _ {subs : List ℕ} {table got : List (List ℕ)} {want₀ figures₀ want figures sums : List ℕ} {g : ℕ}
     (k : Giving subs table got want₀ figures₀ want figures sums g) (h : g < 4) (rows : length table ≡ 4) where
@@ -137,7 +122,3 @@ module _ {subs : List ℕ} {table got : List (List ℕ)} {want₀ figures₀ wan
           sent = subst (SentWithin (drop (g + 1) table)) (sym lower) (sent_then row (drop (g + 1) table) sums sent);
           room = subst (λ w. Room w figures') (sym falls) (room-kept share-lawful subs row want fits (g ∷ g ∷ g ∷ g ∷ []) k.room raised);
         }
-
-module _ {subs : List ℕ} {table got : List (List ℕ)} {want₀ figures₀ want figures sums : List ℕ} {g : ℕ} where
-  pub given : Giving subs table got want₀ figures₀ want figures sums g → 4 ≤ g → length got ≡ 4 → Raised (got_by got) figures₀ figures
-  given k h l = subst (λ c. Raised (got_by c) figures₀ figures) (take_all g got (omega arith)) k.rises

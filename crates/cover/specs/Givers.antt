@@ -1,4 +1,4 @@
--- Step 6 on columns: what the givers sent, and what it leaves in the lent figures. Assumes nothing.
+-- Step 6 on lists of figures: what the givers sent, and what it leaves in the lent figures. Assumes nothing.
 use Rattle.std.specs.Prelude.{ℕ, List}
 use Rattle.lists.specs.Columns.{Below, joined}
 use Rattle.transfer.specs.Laws.{place}

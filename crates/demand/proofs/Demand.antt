@@ -11,13 +11,12 @@ use Rattle.lists.specs.Lists.{sum, sumℤ}
 use Rattle.lists.specs.Columns.{four, at}
 use Rattle.lists.specs.Questions.{outcome}
 use Rattle.lists.proofs.Questions.{accepted, number_itself, outcome-part}
-use Rattle.hour.specs.declared.Plant.{Plant}
+use Rattle.plants.specs.declared.Plant.{Plant}
 use Rattle.hour.specs.Hour.{Hour, hour_of, surplus, cover_table, secondary_table}
 use Rattle.hour.proofs.Hour.{sent-sum}
 use Rattle.ledger.specs.Ledger.{Ledger, zeros, allotted_in, net_column, money_column, net_of, money_of}
 use Rattle.month.specs.declared.Month.{Month}
-use Rattle.month.specs.declared.Balanced.{Balanced}
-use Rattle.month.specs.declared.Ended.{Ended}
+use Rattle.month.specs.Answers.{Balanced, Ended}
 use Rattle.month.specs.declared.Stage.TheVariants.{Blank}
 use Rattle.month.specs.Questions.{is_open, is_blank, open_number, settle_number, close_number, balance_number, posted}
 use Rattle.month.specs.Calls.{opened_month, onward, closed_month, OpenEnd, open_call, SettleEnd, settle_call, balance_call, close_call}
@@ -131,7 +130,7 @@ balanced' : (start s : State) (t? : Option Tally) (hs : List Hour) → Inv start
     × ((balance_call s.month s.ledger).net ≡ pos 0) × ((balance_call s.month s.ledger).money ≡ pos 0)
 unfolding is_blank
 balanced' start s none hs inv e =
-    absurd (false≢true (sym (ap (λ x. not (is_blank x)) inv.0) ∙ (balance s.month s.ledger _ refl (sym (balance_number_lem s.month s.ledger) ∙ e)).not_blank))
+    absurd (false≢true (sym (ap (λ x. not (is_blank x)) inv.0) ∙ (balance s.month s.ledger (sym (balance_number_lem s.month s.ledger) ∙ e)).not_blank))
 balanced' start s (some t) hs inv e =
     let yes = sym (balance_number_lem s.month s.ledger) ∙ e in
     let r = balance_yes s.month s.ledger yes in (
@@ -202,7 +201,7 @@ stated' : (start s : State) (t? : Option Tally) (hs : List Hour) → Inv start s
     × (let text = statement_text (length hs) plants t.figures in (statement_call s.month plants s.ledger lent).bytes ≡ text ++ drop (length text) lent)
 unfolding is_blank statement_call statement_of
 stated' start s none hs inv plants lent e =
-    absurd (false≢true (sym (ap (λ x. not (is_blank x)) inv.0) ∙ (granted s.month plants s.ledger (length lent) _ refl e).sized.due.not_blank))
+    absurd (false≢true (sym (ap (λ x. not (is_blank x)) inv.0) ∙ (granted s.month plants s.ledger (length lent) e).sized.due.not_blank))
 stated' start s (some t) hs inv plants lent e =
     let settled : s.month.due - 1 ≡ length hs = omega (arith, inv.due, inv.counted) in
     let text : statement_text (s.month.due - 1) plants s.ledger ≡ statement_text (length hs) plants t.figures =

@@ -4,11 +4,11 @@ use Rattle.std.proofs.Math.Option.{Option, none, some}
 use Rattle.lists.specs.Lists.{sum, sumℤ}
 use Rattle.lists.specs.Columns.{within, four, at}
 use Rattle.lists.specs.Questions.{outcome}
-use Rattle.hour.specs.declared.Plant.{Plant}
+use Rattle.plants.specs.declared.Plant.{Plant}
 use Rattle.hour.specs.Hour.{Hour, hour_of, submarkets, covered, surplus}
 use Rattle.ledger.specs.Ledger.{Ledger, allotted_in, net_column, money_column, net_of, money_of, zeros}
 use Rattle.month.specs.declared.Month.{Month}
-use Rattle.month.specs.declared.Settled.{Settled}
+use Rattle.month.specs.Answers.{Settled}
 use Rattle.month.specs.declared.Stage.TheVariants.{Blank}
 use Rattle.month.specs.Questions.{posted}
 use Rattle.month.specs.Calls.{open_call, settle_call, balance_call, close_call}

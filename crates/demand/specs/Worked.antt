@@ -12,7 +12,7 @@ use Rattle.sharing.specs.Calls.{sharing_number, sharing_call}
 use Rattle.transfer.specs.Calls.{no_table, apart, transfer_number, transfer_call}
 use Rattle.blocks.specs.Portion.{portion}
 use Rattle.cover.specs.Cover.{own, own_parts, table, got, rest}
-use Rattle.hour.specs.declared.Plant.{Plant}
+use Rattle.plants.specs.declared.Plant.{Plant}
 use Rattle.hour.specs.Hour.{Hour, hour_of, modulated, guaranteed, submarkets, guarantees, secondary, covered, deficit, surplus, left_over, rights, own_cover, cover_got, own_secondary, secondary_got, cover_table, secondary_table, figure, nets, allotment}
 use Rattle.ledger.specs.Ledger.{in_bounds, zeros, added}
 use Rattle.statement.specs.Worked.{plant, plants, ledger}

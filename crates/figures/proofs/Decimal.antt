@@ -2,8 +2,8 @@
 use mathlib.Core.Path.{◌≡◌, refl, sym, ap, ◌∙◌}
 use mathlib.Core.Logic.{by_cases}
 use mathlib.Core.List.{List, [], ◌∷◌, ◌++◌, append_assoc}
-use Prim.Native.Nat.{ℕ, zero, suc, ◌+◌, ◌-◌, ◌*◌, ◌/◌, ◌%◌, ◌^◌, ◌≤◌, ◌<◌}
-use native.Mathlib.Nat.{pow-succ'}
+use Prim.Native.Nat.{ℕ, zero, suc, ◌+◌, ◌-◌, ◌*◌, ◌/◌, ◌%◌, ◌^◌, ◌≤◌, ◌<◌, max}
+use native.Mathlib.Nat.{pow-succ', pow-le-pow_right}
 use native.Mathlib.Numerals.{add-one}
 use native.Mathlib.Decide.{dec_lt}
 use native.Mathlib.Omega.{arith}
@@ -61,6 +61,18 @@ length-le (suc k) x h =
 -- that of a `u64` takes at most 20 bytes
 pub length-le-20 : (x : ℕ) → x < 2 ^ 64 → figure_length x ≤ 20
 length-le-20 x h = length-le 19 x (omega arith)
+
+-- a number from 10 ^ k on, below the next power
+length_log : (k x : ℕ) → 10 ^ k ≤ x → x < 10 * 10 ^ k → figure_length x ≡ k + 1
+length_log zero x l h = length-small x (omega arith)
+length_log (suc k) x l h =
+    let some : 10 ^ 0 ≤ 10 ^ k = pow-le-pow_right (omega arith) {i = 0} {j = k} (omega arith) in
+    omega (arith, pow-succ' 10 k, length_more x (omega (arith, pow-succ' 10 k)), length_log k (x / 10) (omega (arith, pow-succ' 10 k)) (omega (arith, pow-succ' 10 k)))
+
+-- ... and 0 has as many digits as 1
+pub length_by_log : (k x : ℕ) → 10 ^ k ≤ max x 1 → max x 1 < 10 * 10 ^ k → k + 1 ≡ figure_length x
+length_by_log k zero l h = omega (arith, length_log k 1 l h, length-small 1, length-small 0)
+length_by_log k (suc x) l h = omega (arith, length_log k (suc x) (omega arith) (omega arith))
 
 -- ---- a figure of which the first k digits are still to be written
 

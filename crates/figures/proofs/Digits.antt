@@ -2,6 +2,8 @@
 use mathlib.Core.Path.{◌≡◌, refl, sym, ◌∙◌}
 use mathlib.Core.Bool.{Bool, true, false}
 use mathlib.Core.List.{List}
+use Rattle.std.specs.Prelude.{Option, Some, None}
+use Rattle.std.specs.Char.{is_ascii_digit}
 use Prim.Native.Nat.{ℕ, suc, ◌+◌, ◌-◌, ◌*◌, ◌^◌, ◌≤◌, ◌<◌}
 use native.Mathlib.Nat.{pow-succ', pow-le-pow_right}
 use native.Mathlib.Numerals.{add-one}
@@ -20,36 +22,40 @@ pub record Reading (f : List ℕ) (v i : ℕ) : Type 0 where
   pub made : value f ≡ value_from v (drop i f)
   pub small : v < 10 ^ i
 
-refused_as : {test good : Bool} {f : List ℕ} {n : ℕ} → false ≡ test → good ≡ false → n ≡ 0 → ReadAs test f good n
-refused_as e p q = record { said = p ∙ e; stands = rw (← e) q }
+refused_as : {test : Bool} {f : List ℕ} → false ≡ test → ReadAs test f None
+refused_as e = record { said = e; stands = rw (← e) }
 
 module _ {f : List ℕ} where
   pub reading : Reading f 0 0
   unfolding value
   reading = record { tested = passing; made = refl; small = omega arith }
 
-  -- the byte at i is b
-  module _ {v i b : ℕ} (r : Reading f v i) (h : i < length f) where
-    -- one digit more has room
-    pub reading_fits : length f ≤ 19 → in_range 48 57 b ≡ true → (48 ≤ b) × (10 * v + (b - 48) < 10 ^ 19)
-    reading_fits k d =
-        let up : 10 ^ suc i ≤ 10 ^ 19 = pow-le-pow_right (omega arith) {j = 19} (omega arith) in
-        omega (arith, limits 48 57 b d, r.small, pow-succ' 10 i)
+  -- at a byte, with what `is_ascii_digit` answers of it
+  module _ {v i : ℕ} (r : Reading f v i) (h : i < length f) {x : Bool} (e : x ≡ is_ascii_digit (get_or f i 0)) where
+    asked : in_range 48 57 (get_or f i 0) ≡ x
+    unfolding in_range
+    asked = sym e
 
-    pub reading_more : b ≡ get_or f i 0 → in_range 48 57 b ≡ true → Reading f (10 * v + (b - 48)) (i + 1)
+    -- one digit more has room
+    pub reading_fits : x ≡ true → length f ≤ 19 → (48 ≤ get_or f i 0) × (10 * v + (get_or f i 0 - 48) < 10 ^ 19)
+    reading_fits d k =
+        let up : 10 ^ suc i ≤ 10 ^ 19 = pow-le-pow_right (omega arith) {j = 19} (omega arith) in
+        omega (arith, limits 48 57 (get_or f i 0) (asked ∙ d), r.small, pow-succ' 10 i)
+
+    pub reading_more : {d : ℕ} → d ≡ get_or f i 0 - 48 → x ≡ true → Reading f (10 * v + d) (i + 1)
     unfolding value_from is_digit
-    reading_more e d =
+    reading_more p d =
         record {
-          tested = passing_more r.tested (drop_more f i 0 h) (rw (← e) d);
-          made = r.made ∙ rw (drop_more f i 0, e);
-          small = rw add-one (omega (arith, limits 48 57 b d, r.small, pow-succ' 10 i));
+          tested = passing_more r.tested (drop_more f i 0 h) (asked ∙ d);
+          made = r.made ∙ rw (drop_more f i 0, p);
+          small = rw add-one (omega (arith, limits 48 57 (get_or f i 0) (asked ∙ d), r.small, pow-succ' 10 i));
         }
 
-    pub reading_stopped : {good : Bool} {n : ℕ} → b ≡ get_or f i 0 → in_range 48 57 b ≡ false → good ≡ false → n ≡ 0 → ReadAs (every is_digit f) f good n
+    pub reading_stopped : x ≡ false → ReadAs (every is_digit f) f None
     unfolding is_digit
-    reading_stopped e d = refused_as (halted r.tested (drop_more f i 0 h) (rw (← e) d))
+    reading_stopped d = refused_as (halted r.tested (drop_more f i 0 h) (asked ∙ d))
 
-  pub read_whole : {v i : ℕ} → Reading f v i → length f ≤ i → ReadAs (every is_digit f) f true v
+  pub read_whole : {v i : ℕ} → Reading f v i → length f ≤ i → ReadAs (every is_digit f) f (Some v)
   unfolding value_from
   read_whole {v} {i} r h =
       let all = passed r.tested (drop_of_length-le f h) in
@@ -57,16 +63,16 @@ module _ {f : List ℕ} where
 
 -- ---- question 29
 
-module _ (f : List ℕ) {good : Bool} {n : ℕ} where
-  pub figure_unsized : in_range 1 19 (length f) ≡ false → good ≡ false → n ≡ 0 → ReadAs (is_figure f) f good n
+module _ (f : List ℕ) where
+  pub figure_unsized : in_range 1 19 (length f) ≡ false → ReadAs (is_figure f) f None
   unfolding is_figure
   figure_unsized e = refused_as (rw e)
 
   module _ (sized : in_range 1 19 (length f) ≡ true) (z : Bool) (e : z ≡ leading_zero f) where
-    pub figure-leading : z ≡ true → good ≡ false → n ≡ 0 → ReadAs (is_figure f) f good n
+    pub figure-leading : z ≡ true → ReadAs (is_figure f) f None
     unfolding is_figure
     figure-leading t = refused_as (rw (sized, ← e, t))
 
-    pub figure-digits : z ≡ false → ReadAs (every is_digit f) f good n → ReadAs (is_figure f) f good n
+    pub figure-digits : {answer : Option ℕ} → z ≡ false → ReadAs (every is_digit f) f answer → ReadAs (is_figure f) f answer
     unfolding is_figure
     figure-digits t r = rw (sized, ← e, t) r

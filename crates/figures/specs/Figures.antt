@@ -1,5 +1,5 @@
 -- Figures as text: document 01, 'The file and its statement'. Bytes are numbers; the digits `0` to `9` are 48 to 57. Assumes nothing.
-use Rattle.std.specs.Prelude.{◌≡◌, ℕ, zero, suc, ◌+◌, ◌*◌, ◌-◌, ◌/◌, ◌%◌, Bool, cond, not, ◌&&◌, List, [], ◌∷◌, ◌++◌, eqb, ltb, ℤ, pos, negsuc, nat_abs, length, get_or}
+use Rattle.std.specs.Prelude.{◌≡◌, ℕ, zero, suc, ◌+◌, ◌*◌, ◌-◌, ◌/◌, ◌%◌, Bool, cond, not, ◌&&◌, List, [], ◌∷◌, ◌++◌, eqb, ltb, ℤ, pos, negsuc, nat_abs, length, get_or, Option, is_some, unwrap_or}
 use Rattle.lists.specs.Lists.{between, every}
 use Rattle.lists.specs.Questions.{in_range}
 
@@ -56,10 +56,10 @@ leading_zero bs = ltb 1 (length bs) && eqb (get_or bs 0 0) 48
 unfoldable pub is_figure : List ℕ → Bool
 is_figure bs = in_range 1 19 (length bs) && (not (leading_zero bs) && every is_digit bs)
 
--- bytes as read: with the test passed they are good and stand for their value, else for 0
-pub record ReadAs (test : Bool) (bytes : List ℕ) (good : Bool) (v : ℕ) : Type 0 where
-  pub said : good ≡ test
-  pub stands : v ≡ cond test (value bytes) 0
+-- bytes as read: their value with the test passed, else no figure
+pub record ReadAs (test : Bool) (bytes : List ℕ) (answer : Option ℕ) : Type 0 where
+  pub said : is_some answer ≡ test
+  pub stands : unwrap_or answer 0 ≡ cond test (value bytes) 0
 
 -- the text, with bytes in their place from a position on; what stands before and behind them stays
 unfoldable pub written : List ℕ → ℕ → List ℕ → List ℕ

@@ -1,43 +1,25 @@
 -- What feed and finish need, decided at run time, and the promises of `specs/Checking`. Assumes nothing.
-use mathlib.Core.Path.{◌≡◌, refl, sym, subst, ◌∙◌}
+use mathlib.Core.Path.{◌≡◌, refl, sym, subst}
 use mathlib.Core.Logic.{by_cases}
-use mathlib.Core.Bool.{Bool, true, false, false≢true}
+use mathlib.Core.Bool.{Bool, true, false, cond}
 use mathlib.Core.List.{List}
 use Prim.Native.Nat.{ℕ, ◌≤◌}
 use native.Mathlib.Omega.{arith}
 use native.Mathlib.Decide.{ℕ_discrete}
-use borrow.Author.Tests.{eqb-true, eqb-false}
-use lib.Dec.{eqb}
+use borrow.Author.Tests.{leb-true, leb-false}
+use lib.Dec.{leb}
 use lib.ListN.{length}
+use Rattle.refusals.specs.declared.Refusal.{Refusal}
+use Rattle.refusals.specs.Numbers.{refusal_number}
+use Rattle.refusals.proofs.Asking.{refused_number}
 use Rattle.lines.specs.Fields.{longest}
 use Rattle.statement.specs.Statement.{room_for}
-use Rattle.statement.specs.Writing.{Fills}
-use Rattle.month_file.specs.Bytes.{finished}
 use Rattle.file_lines.specs.State.{Lent, Valid}
-use Rattle.month_file.specs.Machine.{reading_of, Fed}
 use Rattle.month_file.specs.Run.{Place, Feeds}
 use Rattle.month_file.specs.Run as run
-use Rattle.file_calls.specs.Checking.{Decides, FileRoom, FileNumber, FedAny, FinishNumber, FinishedAny, Answered, AnyPromised}
+use Rattle.file_calls.specs.Checking.{Decides, FileRoom, FileNumber, FedAny, FinishNumber, Answered, AnyPromised}
 use Rattle.file_calls.specs.Checking as def
 use Rattle.month_file.proofs.Run.{promised}
-
--- ---- yes and no
-
-pub yes : {holds : Type 0} → holds → Decides holds true
-yes h = record { yes = λ e. h; no = λ e. absurd (false≢true (sym e)) }
-
-pub no : {holds : Type 0} → (holds → ⊥) → Decides holds false
-no h = record { yes = λ e. absurd (false≢true e); no = λ e. h }
-
--- what decides one condition decides another that it stands for
-pub alike : {one other : Type 0} (b : Bool) → (one → other) → (other → one) → Decides one b → Decides other b
-alike b there back d = record { yes = λ e. there (d.yes e); no = λ e h. d.no e (back h) }
-
-pub by_equal : (m n : ℕ) → Decides (m ≡ n) (eqb m n)
-by_equal m n = record { yes = eqb-true m n; no = eqb-false m n }
-
-pub by_value : (b r : Bool) → r ≡ b → Decides (b ≡ true) r
-by_value b r e = record { yes = λ t. sym e ∙ t; no = λ f t. false≢true (sym f ∙ e ∙ t) }
 
 -- ---- what is answered
 
@@ -46,35 +28,50 @@ room (def.FileNumber.short h) e = absurd (e refl)
 room (def.FileNumber.unknown r h) e = r
 room (def.FileNumber.good r v) e = r
 
-pub no_room {ℓ} : {holds : Type ℓ} {a : Place} {n : ℕ} → FileNumber a n → n ≡ 30 → FileRoom a → holds
-no_room (def.FileNumber.short h) e r = absurd (h r)
-no_room (def.FileNumber.unknown r h) e _ = absurd (omega arith)
-no_room (def.FileNumber.good r v) e _ = absurd (omega arith)
-
 pub feed_good : {a : Place} {n : ℕ} → FileNumber a n → n ≡ 0 → (longest ≤ length a.line) × Valid a.file a.lists
 feed_good (def.FileNumber.short h) e = absurd (omega arith)
 feed_good (def.FileNumber.unknown r h) e = absurd (omega arith)
 feed_good (def.FileNumber.good r v) e = (r.bytes, v)
-
-pub feed_refused : {a : Place} {part : List ℕ} {n : ℕ} → FileNumber a n → (n ≡ 0 → ⊥) → FedAny a part n a
-feed_refused k h = record { number = k; refused = λ _. refl; taken = λ e. absurd (h e) }
-
-pub feed_taken : {a b : Place} {part : List ℕ} {n : ℕ} → FileNumber a n → n ≡ 0 → Fed a.file a.lists a.line part b.file b.lists b.line
-    → FedAny a part 0 b
-feed_taken {a} k e g = record { number = subst (λ (n : ℕ). FileNumber a n) e k; refused = λ h. absurd (h refl); taken = λ _. g }
 
 pub finish_good : {a : Place} {text : List ℕ} {n : ℕ} → FinishNumber a text n → n ≡ 0
     → ((longest ≤ length a.line) × (room_for 512 ≤ length text)) × Valid a.file a.lists
 finish_good (def.FinishNumber.narrow r h) e = absurd (omega arith)
 finish_good (def.FinishNumber.wide w k) e = let g = feed_good k e in ((g.0, w (room k (λ t. omega (arith, e, t)))), g.1)
 
-pub finish_refused : {a : Place} {text : List ℕ} {n : ℕ} → FinishNumber a text n → (n ≡ 0 → ⊥) → FinishedAny a text (record { number = n; length = 0 }) text
-finish_refused k h = record { number = k; refused = λ _. (refl, refl); written = λ e. absurd (h e) }
+-- a question of room that is answered
+pub room_refused : {a : Place} (b : Bool) → Decides (FileRoom a) b → (r : Refusal) → refusal_number r ≡ cond b 0 30 → FileNumber a (refusal_number r)
+room_refused true d r e = absurd (refused_number r e)
+room_refused false d r e = rw e (def.FileNumber.short (d.no refl))
 
-pub finish_written : {a : Place} {text after : List ℕ} {m n : ℕ} → FinishNumber a text n → n ≡ 0
-    → Fills (finished (reading_of a.file a.lists a.line)) text m after → FinishedAny a text (record { number = 0; length = m }) after
-finish_written {a} {text} k e w =
-    record { number = subst (λ (n : ℕ). FinishNumber a text n) e k; refused = λ h. absurd (h refl); written = λ _. w }
+pub room_asked : {a : Place} (b : Bool) → Decides (FileRoom a) b → cond {A = ℕ} b 0 30 ≡ 0 → FileRoom a
+room_asked true d e = d.yes refl
+room_asked false d e = absurd (omega arith)
+
+pub finish_refused : {a : Place} {text : List ℕ} (b : Bool) → Decides (FileRoom a) b → (r : Refusal) → refusal_number r ≡ cond b 0 30
+    → FinishNumber a text (refusal_number r)
+finish_refused true d r e = absurd (refused_number r e)
+finish_refused false d r e = def.FinishNumber.wide (λ p. absurd (d.no refl p)) (room_refused false d r e)
+
+-- ... of the text
+pub text_refused : {a : Place} {text : List ℕ} → FileRoom a → (m : ℕ) → m ≡ room_for 512 → (r : Refusal) → refusal_number r ≡ cond (leb m (length text)) 0 22
+    → FinishNumber a text (refusal_number r)
+text_refused {a} {text} p m q r e = by (leb m (length text)) refl e
+  where
+    by : (b : Bool) → leb m (length text) ≡ b → refusal_number r ≡ cond b 0 22 → FinishNumber a text (refusal_number r)
+    by true t e = absurd (refused_number r e)
+    by false t e = rw e (def.FinishNumber.narrow {text = text} p (omega (arith, leb-false m (length text) t, q)))
+
+pub text_asked : (text : List ℕ) (m : ℕ) → m ≡ room_for 512 → cond {A = ℕ} (leb m (length text)) 0 22 ≡ 0 → room_for 512 ≤ length text
+text_asked text m q e = by (leb m (length text)) refl e
+  where
+    by : (b : Bool) → leb m (length text) ≡ b → cond {A = ℕ} b 0 22 ≡ 0 → room_for 512 ≤ length text
+    by true t e = omega (arith, leb-true m (length text) t, q)
+    by false t e = absurd (omega arith)
+
+-- ... of the state
+pub valid_asked : {a : Place} → FileRoom a → (b : Bool) → Decides (Valid a.file a.lists) b → (n : ℕ) → n ≡ cond b 0 31 → FileNumber a n
+valid_asked r true d n e = rw e (def.FileNumber.good r (d.yes refl))
+valid_asked r false d n e = rw e (def.FileNumber.unknown r (d.no refl))
 
 -- ---- a file from its first part on
 

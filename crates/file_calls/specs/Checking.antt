@@ -1,9 +1,11 @@
 -- Feed and finish for any caller: lists that are too short, and a state that does not fit them, are refused, and nothing is written. Assumes nothing.
-use Rattle.std.specs.Prelude.{◌≡◌, Bool, true, false, ℕ, ◌≤◌, ◌<◌, length}
+use Rattle.std.specs.Prelude.{◌≡◌, Bool, true, false, ℕ, ◌≤◌, ◌<◌, Result, Ok, Err, length}
 use mathlib.Core.List.{List, [], ◌∷◌, flatten}
 use Rattle.lines.specs.Fields.{longest}
 use Rattle.statement.specs.Statement.{room_for}
 use Rattle.statement.specs.Writing.{Fills}
+use Rattle.refusals.specs.declared.Refusal.{Refusal}
+use Rattle.refusals.specs.Numbers.{refusal_number}
 use Rattle.file_calls.specs.declared.FinishAnswer.{FinishAnswer}
 use Rattle.file_lines.specs.File.{settled_file}
 use Rattle.month_file.specs.Bytes.{finished}
@@ -43,6 +45,11 @@ pub record FedAny (a : Place) (part : List ℕ) (n : ℕ) (b : Place) : Type 0 w
 pub data FinishNumber : Place → List ℕ → ℕ → Type 0 where
   narrow : {a : Place} {text : List ℕ} → FileRoom a → length text < room_for 512 → FinishNumber a text 22
   wide : {a : Place} {text : List ℕ} {n : ℕ} → (FileRoom a → room_for 512 ≤ length text) → FileNumber a n → FinishNumber a text n
+
+-- an answer as C gets it
+abbrev pub finish_answer : Result ℕ Refusal → FinishAnswer
+finish_answer (Ok length) = record { number = 0; length = length }
+finish_answer (Err r) = record { number = refusal_number r; length = 0 }
 
 -- Only the text is lent to be written. Refused, nothing is written; else what is printed stands at its front
 pub record FinishedAny (a : Place) (text : List ℕ) (r : FinishAnswer) (after : List ℕ) : Type 0 where

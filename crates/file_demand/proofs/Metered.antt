@@ -10,7 +10,7 @@ use lib.ListN.{length, drop, get_or, replicate}
 use Rattle.lists.specs.Questions.{outcome}
 use Rattle.lists.proofs.Questions.{accepted, asked, both}
 use Rattle.lines.specs.Reading.{line_start}
-use Rattle.hour.specs.declared.Plant.{Plant}
+use Rattle.plants.specs.declared.Plant.{Plant}
 use Rattle.ledger.specs.Ledger.{Ledger}
 use Rattle.month.specs.declared.Month.{Month}
 use Rattle.month.specs.Questions.{close_number}

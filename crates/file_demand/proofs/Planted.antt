@@ -8,7 +8,7 @@ use borrow.Author.Tests.{ltb-true, ltb-false, eqb-true, lt-ltb, le-ltb, eq-eqb}
 use lib.Dec.{ltb}
 use lib.ListN.{length, replicate, length-append}
 use Rattle.lines.specs.Reading.{line_start}
-use Rattle.hour.specs.declared.Plant.{Plant}
+use Rattle.plants.specs.declared.Plant.{Plant}
 use Rattle.file_lines.specs.File.{FileLine, whole, Sizes, Progress, gathers, figures_of, plant_of, in_turn, taken, printed, following}
 use Rattle.file_lines.specs.State.{is_refused}
 use Rattle.file_demand.specs.Sums.{plants_in, profile_in, Rising, Readable}

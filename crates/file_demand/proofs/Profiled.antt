@@ -9,7 +9,7 @@ use lib.Dec.{eqb, ltb}
 use lib.ListN.{length, get_or, length-append}
 use Rattle.lists.proofs.Questions.{accepted, both}
 use Rattle.lines.specs.Reading.{line_start}
-use Rattle.hour.specs.declared.Plant.{Plant}
+use Rattle.plants.specs.declared.Plant.{Plant}
 use Rattle.ledger.specs.Ledger.{zeros}
 use Rattle.month.specs.declared.Month.{Month}
 use Rattle.month.specs.Questions.{open_number}

@@ -8,7 +8,7 @@ use borrow.Author.Tests.{eqb-true, eq-eqb}
 use lib.ListN.{length, get_or, replicate, length-map}
 use Rattle.lists.proofs.Questions.{accepted, asked, parted}
 use Rattle.lines.specs.Reading.{line_start}
-use Rattle.hour.specs.declared.Plant.{Plant}
+use Rattle.plants.specs.declared.Plant.{Plant}
 use Rattle.ledger.specs.Ledger.{Ledger}
 use Rattle.figures.specs.Figures.{by_commas}
 use Rattle.statement.specs.Statement.{line, plant_line, plant_lines, total_line, statement_text}

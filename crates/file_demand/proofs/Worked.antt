@@ -7,7 +7,7 @@ use native.Mathlib.Omega.{arith}
 use native.Mathlib.Numerals.{add-one}
 use lib.ListN.{length, replicate}
 use Rattle.lists.proofs.Questions.{accepted}
-use Rattle.hour.specs.declared.Plant.{Plant}
+use Rattle.plants.specs.declared.Plant.{Plant}
 use Rattle.hour.specs.Hour.{Hour, hour_of}
 use Rattle.month.specs.Statement.{statement_of}
 use Rattle.statement.specs.Statement.{statement_text}

@@ -4,7 +4,7 @@ use Rattle.std.specs.Prelude.{◌≡◌, ℕ, ◌+◌, ◌*◌, ◌≤◌, ◌<�
 use Rattle.std.proofs.Math.Option.{none, some}
 use Rattle.lists.specs.Lists.{table_from}
 use Rattle.lines.specs.Reading.{line_start, read_number}
-use Rattle.hour.specs.declared.Plant.{Plant}
+use Rattle.plants.specs.declared.Plant.{Plant}
 use Rattle.hour.specs.Hour.{Hour, hour_of}
 use Rattle.ledger.specs.Ledger.{zeros}
 use Rattle.statement.specs.Statement.{statement_text}

@@ -9,24 +9,23 @@ use lib.ListN.{length, take, drop, length-replicate}
 use lib.Seq.{length-take-le, length_front, take_at}
 use Rattle.lists.specs.Questions.{outcome}
 use Rattle.lists.proofs.Questions.{accepted}
-use Rattle.hour.specs.declared.Plant.{Plant}
-use Rattle.records.specs.Records.{rows_of}
-use Rattle.records.proofs.Figures.{length-rows}
+use Rattle.plants.specs.declared.Plant.{Plant}
 use Rattle.ledger.specs.Ledger.{Ledger, zeros, in_bounds}
 use Rattle.ledger.proofs.Bounds.{zeros_in_bounds}
 use Rattle.month.specs.declared.Month.{Month}
-use Rattle.month.specs.declared.Ended.{Ended}
+use Rattle.month.specs.Answers.{Ended}
 use Rattle.questions.specs.Questions.{lengths_number, tables_number, rows_number}
 use Rattle.questions.proofs.Asked.{Lengths}
 use Rattle.month.specs.Questions.{is_open, open_number}
 use Rattle.month.specs.Calls.{blank, opened_month, OpenEnd, open_call}
 use Rattle.month.proofs.Accepted.{open_number_lem}
 use Rattle.month.proofs.Asked as asked
+use Rattle.file_lines.specs.declared.FileStage.TheVariants.{Metering}
 use Rattle.file_lines.specs.declared.MonthFile.{MonthFile}
 use Rattle.file_lines.specs.File as file
 use Rattle.file_lines.specs.File.{settles, opened}
-use Rattle.file_lines.specs.State.{Kept, kept, ledger_of, progress_of, Lent, Counted, Moved, at_stage, monthed, at_refusal, at_call, Openable, opened_of}
-use Rattle.file_lines.proofs.Moves.{lent_as, valid-settling, moved_as, refuses-by, called}
+use Rattle.file_lines.specs.State.{Kept, kept, ledger_of, progress_at, progress_of, Lent, Counted, Moved, at_stage, monthed, at_refusal, at_call, Openable, opened_of}
+use Rattle.file_lines.proofs.Moves.{lent_as, valid_at, moved_as, refuses-by, called}
 
 -- of the ledger open asks the lengths alone
 open_alike : (m : Month) (plants : List Plant) (profile : List ℕ) (t : ℕ) (l g : Ledger) → length l.allotted ≡ length g.allotted → length l.accounts ≡ length g.accounts
@@ -37,7 +36,7 @@ open_alike m plants profile t l g p q = rw (p, q)
 -- the lists with other ledger figures at their front
 abbrev pub with_ledger : Kept → ℕ → List ℕ → List ℤ → Kept
 with_ledger k p ys zs =
-    kept k.columns k.profile (ys ++ drop (4 * p) k.allotted) (zs ++ drop (2 * p) k.accounts)
+    kept k.plants k.profile (ys ++ drop (4 * p) k.allotted) (zs ++ drop (2 * p) k.accounts)
 
 -- the ledger of n plants has four figures and two accounts for each
 pub ledger-long : (k : Kept) → Lent k → (n : ℕ) → n ≤ 512 → Lengths n (ledger_of n k)
@@ -61,23 +60,23 @@ module _ (k : Kept) (lent : Lent k) (p : ℕ) (few : p ≤ 512) (ys : List ℕ) 
 
 -- an accepted open or settle: the state among G lines, with its month and its ledger
 pub settles_moved : (f : MonthFile) (k : Kept) → Lent k → (m : Month) {l : Ledger} → ledger_of m.plants k ≡ l → Counted m (f.count + 1)
-    → rows_number 0 0 (rows_of m.plants k.columns) ≡ 0 → in_bounds l ≡ true
-    → Moved f (settles (rows_of m.plants k.columns) (take m.periods k.profile) m l) (monthed (at_stage f 2) m) k
-unfolding at_stage progress_of
+    → rows_number 0 0 (take m.plants k.plants) ≡ 0 → in_bounds l ≡ true
+    → Moved f (settles (take m.plants k.plants) (take m.periods k.profile) m l) (monthed (at_stage f Metering) m) k
+unfolding at_stage progress_at progress_of
 settles_moved f k lent m e c rows b =
     record {
       empty = refl;
       counted = refl;
-      stands = ap (settles (rows_of m.plants k.columns) (take m.periods k.profile) m) e;
-      valid = valid-settling _ k lent (omega arith) refl (record { counted = c; rows = rows; bounded = ap in_bounds e ∙ b });
+      stands = ap (settles (take m.plants k.plants) (take m.periods k.profile) m) e;
+      valid = valid_at _ k lent (omega arith) Metering refl (record { counted = c; rows = rows; bounded = ap in_bounds e ∙ b });
     }
 
 module _ (f : MonthFile) (k : Kept) (o : Openable f k) (end : Ended) (ys : List ℕ) (zs : List ℤ)
     (e : ◌≡◌ {A = OpenEnd} (record { answer = end; ledger = record { allotted = ys; accounts = zs } })
-    (open_call blank (rows_of f.plants k.columns) (take f.periods k.profile) f.tariff (ledger_of f.plants k)))
+    (open_call blank (take f.plants k.plants) (take f.periods k.profile) f.tariff (ledger_of f.plants k)))
     (many : length ys ≡ length (take (4 * f.plants) k.allotted)) (more : length zs ≡ length (take (2 * f.plants) k.accounts)) where
   abbrev rows : List Plant
-  rows = rows_of f.plants k.columns
+  rows = take f.plants k.plants
 
   abbrev profile : List ℕ
   profile = take f.periods k.profile
@@ -91,6 +90,9 @@ module _ (f : MonthFile) (k : Kept) (o : Openable f k) (end : Ended) (ys : List 
   abbrev fresh : OpenEnd
   fresh = open_call blank rows profile f.tariff (zeros (length rows))
 
+  h_rows : length rows ≡ f.plants
+  h_rows = length-take-le f.plants k.plants (omega (arith, o.plants, o.lent.plants))
+
   h_figures : length profile ≡ f.periods
   h_figures = length-take-le f.periods k.profile (omega (arith, o.periods, o.lent.profile))
 
@@ -99,9 +101,8 @@ module _ (f : MonthFile) (k : Kept) (o : Openable f k) (end : Ended) (ys : List 
   unfolding zeros ledger_of
   alike =
       let long = ledger-long k o.lent f.plants o.plants in
-      let same = length-rows f.plants k.columns in
-      open_alike blank rows profile f.tariff _ _ (long.allotted ∙ rw same (sym (length-replicate (4 * f.plants) 0)))
-      (long.accounts ∙ rw same (sym (length-replicate (2 * f.plants) (pos 0))))
+      open_alike blank rows profile f.tariff _ _ (long.allotted ∙ rw h_rows (sym (length-replicate (4 * f.plants) 0)))
+      (long.accounts ∙ rw h_rows (sym (length-replicate (2 * f.plants) (pos 0))))
 
   asks : end.number ≡ open_number blank rows profile f.tariff (ledger_of f.plants k)
   asks = ap (λ (r : OpenEnd). r.answer.number) e ∙ open_number_lem _ _ _ _ _
@@ -123,7 +124,7 @@ module _ (f : MonthFile) (k : Kept) (o : Openable f k) (end : Ended) (ys : List 
   unfolding open_call
   open_is l z =
       accepted _ _ _ z
-      ∙ ap₂ (λ (n h : ℕ). record { answer = record { number = 0; month = opened_month n h f.tariff }; ledger = zeros n }) (length-rows f.plants k.columns) h_figures
+      ∙ ap₂ (λ (n h : ℕ). record { answer = record { number = 0; month = opened_month n h f.tariff }; ledger = zeros n }) h_rows h_figures
 
   module _ (z : end.number ≡ 0) where
     none : open_number blank rows profile f.tariff (ledger_of f.plants k) ≡ 0
@@ -139,7 +140,7 @@ module _ (f : MonthFile) (k : Kept) (o : Openable f k) (end : Ended) (ys : List 
     unfolding opened_of opened outcome
     opens = ap (λ (r : OpenEnd). outcome r.answer.number (settles rows profile r.answer.month r.ledger) (file.refuses (f.count + 1))) (open_is _ (sym alike ∙ none))
 
-    opening-opened : Moved f (opened_of f k) (monthed (at_stage f 2) end.month) after
+    opening-opened : Moved f (opened_of f k) (monthed (at_stage f Metering) end.month) after
     unfolding is_open
     opening-opened =
         let q = asked.opened blank rows profile f.tariff _ none in
@@ -154,7 +155,16 @@ module _ (f : MonthFile) (k : Kept) (o : Openable f k) (end : Ended) (ys : List 
           lines = omega (arith, o.counted);
         })
         q.1.rows (zeros_in_bounds f.plants))
-        (ap (monthed (at_stage f 2)) (sym (ap (λ (r : OpenEnd). r.answer.month) left))) (sym opens)
+        (ap (monthed (at_stage f Metering)) (sym (ap (λ (r : OpenEnd). r.answer.month) left))) (sym opens)
 
-  pub opening_called : {r : MonthFile} → r ≡ at_call f end.number end.month → Moved f (opened_of f k) r after
+  opening_called : {r : MonthFile} → r ≡ at_call f end.number end.month → Moved f (opened_of f k) r after
   opening_called = called f end.number end.month (λ r. Moved f (opened_of f k) r after) opening-refused opening-opened
+
+-- what open answers and leaves of a blank month
+pub opening_answered : {f : MonthFile} {k : Kept} → Openable f k → {m : Month} → m ≡ blank → {end : Ended} {ys : List ℕ} {zs : List ℤ}
+    → ◌≡◌ {A = OpenEnd} (record { answer = end; ledger = record { allotted = ys; accounts = zs } })
+    (open_call m (take f.plants k.plants) (take f.periods k.profile) f.tariff (record { allotted = take (4 * f.plants) k.allotted; accounts = take (2 * f.plants) k.accounts }))
+    → length ys ≡ length (take (4 * f.plants) k.allotted) → length zs ≡ length (take (2 * f.plants) k.accounts)
+    → {r : MonthFile} → r ≡ at_call f end.number end.month → Moved f (opened_of f k) r (with_ledger k f.plants ys zs)
+unfolding ledger_of
+opening_answered o b e many more q = opening_called _ _ o _ _ _ (rw (sym b) e) many more q

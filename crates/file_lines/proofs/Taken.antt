@@ -1,9 +1,9 @@
 -- A line that is read and, in turn, taken. Assumes nothing.
 use mathlib.Core.Path.{◌≡◌, refl, sym, ap, ◌∙◌}
-use mathlib.Core.Logic.{by_cases}
+use mathlib.Core.Logic.{◌≢◌, by_cases}
 use mathlib.Core.Bool.{Bool, true, false, cond}
 use mathlib.Core.List.{List, map}
-use Prim.Native.Nat.{ℕ, zero, suc, ◌+◌, ◌-◌, ◌≤◌, ◌<◌}
+use Prim.Native.Nat.{ℕ, ◌+◌, ◌-◌, ◌≤◌, ◌<◌}
 use native.Mathlib.Decide.{dec_lt}
 use native.Mathlib.Omega.{arith}
 use borrow.Author.Tests.{eqb-true, lt-ltb, le-ltb}
@@ -16,117 +16,109 @@ use Rattle.lines.specs.Reading.{line_start, line_fields, count_fits, read_number
 use Rattle.lines.specs.declared.reading.Line.{Line}
 use Rattle.lines.proofs.Commas.{fields-some}
 use Rattle.lines.proofs.Accepted.{Read, read_number_lem, read-start, read_count, read-figures, read-yes, month-fields, plant-fields, period-fields, meter_fields}
-use Rattle.records.specs.Records.{rows_of}
-use Rattle.records.proofs.Figures.{length-rows}
+use Rattle.file_lines.specs.declared.FileStage.{FileStage}
+use Rattle.file_lines.specs.declared.FileStage.TheVariants as stage
+use Rattle.file_lines.specs.declared.FileStage.TheVariants.{First, Metering, Refused}
 use Rattle.file_lines.specs.declared.MonthFile.{MonthFile}
 use Rattle.file_lines.specs.File as file
 use Rattle.file_lines.specs.File.{whole, Progress, begins, settles, sizes_named, in_turn, begun, taken, read}
-use Rattle.file_lines.specs.State.{is_refused, Kept, ledger_of, progress_of, turn, Valid, Moved, at_refusal, settled_of, Figured}
-use Rattle.file_lines.proofs.Moves.{moved_as, refused_moved, refuses-by}
+use Rattle.file_lines.specs.State.{is_refused, Kept, ledger_of, progress_at, progress_of, turn_at, turn, Valid, Moved, at_refusal, settled_of, Figured}
+use Rattle.file_lines.proofs.Moves.{by_stage, moved_as, refused_moved, refuses-by}
 use Rattle.file_lines.proofs.Gathered.{gathers_is}
 
 -- one of the stages before a refusal
-pub by_stage {ℓ} : {A : Type ℓ} (n : ℕ) → n ≤ 2 → (n ≡ 0 → A) → (n ≡ 1 → A) → (n ≡ 2 → A) → A
-by_stage zero h a b c = a refl
-by_stage (suc zero) h a b c = b refl
-by_stage (suc (suc zero)) h a b c = c refl
-by_stage (suc (suc (suc n))) h a b c = absurd (omega arith)
-
-pub third_stage : (n : ℕ) → n ≤ 2 → (n ≡ 0 → ⊥) → (n ≡ 1 → ⊥) → n ≡ 2
-third_stage n h a b = by_stage n h (λ e. absurd (a e)) (λ e. absurd (b e)) (λ e. e)
+pub before_refusal {ℓ} : {A : Type ℓ} (s : FileStage) → s ≢ Refused → (s ≡ First → A) → (s ≡ stage.Gathering → A) → (s ≡ Metering → A) → A
+before_refusal s h a b c = by_stage s a b c (λ e. absurd (h e))
 
 module _ (f : MonthFile) (k : Kept) where
-  pub begins_is : f.stage ≡ 0 → progress_of f k ≡ begins
-  unfolding progress_of
+  pub begins_is : f.stage ≡ First → progress_of f k ≡ begins
+  unfolding progress_at progress_of
   begins_is e = rw e
 
-  pub settles_is : f.stage ≡ 2
-      → progress_of f k ≡ settles (rows_of f.month.plants k.columns) (take f.month.periods k.profile) f.month (ledger_of f.month.plants k)
-  unfolding progress_of
+  pub settles_is : f.stage ≡ Metering
+      → progress_of f k ≡ settles (take f.month.plants k.plants) (take f.month.periods k.profile) f.month (ledger_of f.month.plants k)
+  unfolding progress_at progress_of
   settles_is e = rw e
 
   -- ---- the figures of a line in turn
 
-  pub sizes-taken : (figures : List ℕ) {r : MonthFile} {q : Kept} → f.stage ≡ 0
+  pub sizes-taken : (figures : List ℕ) {r : MonthFile} {q : Kept} → f.stage ≡ First
       → Moved f (begun (f.count + 1) (sizes_named figures)) r q
       → Moved f (taken (f.count + 1) (progress_of f k) figures) r q
   unfolding taken
   sizes-taken figures {r} {q} e m = moved_as f q m.valid.lent m refl (ap (λ (p : Progress). taken (f.count + 1) p figures) (sym (begins_is e)))
 
-  pub meters-taken : (figures : List ℕ) {r : MonthFile} {q : Kept} → f.stage ≡ 2
+  pub meters-taken : (figures : List ℕ) {r : MonthFile} {q : Kept} → f.stage ≡ Metering
       → Moved f (settled_of f k (take (length figures - 1) (drop 1 figures))) r q → Moved f (taken (f.count + 1) (progress_of f k) figures) r q
   unfolding taken settled_of
   meters-taken figures {r} {q} e m =
       moved_as f q m.valid.lent m refl
       (ap (settled_of f k) (take_all (length figures - 1) (drop 1 figures) (omega (arith, length-drop 1 figures))) ∙ ap (λ (p : Progress). taken (f.count + 1) p figures) (sym (settles_is e)))
 
-module _ (f : MonthFile) (k : Kept) (v : Valid f k) (due : f.stage ≤ 2) where
+module _ {f : MonthFile} {k : Kept} (v : Valid f k) (due : f.stage ≢ Refused) where
   -- no month has more lines
   pub few-lines : f.count < 10000
   few-lines =
-      by_stage f.stage due (λ e. omega (arith, v.begun e))
+      before_refusal f.stage due (λ e. omega (arith, v.begun e))
       (λ e. let g = v.gathering e in omega (arith, g.plants, g.periods, g.rows, g.figures, g.counted))
       (λ e. let g = (v.settling e).counted in omega (arith, g.plants, g.periods, g.due, g.lines))
 
   pub unrefused : is_refused (progress_of f k) ≡ false
-  unfolding is_refused progress_of
-  unrefused = by_stage f.stage due (λ e. rw e) (λ e. rw e) (λ e. rw e)
-
-  pub profile-count : f.stage ≡ 1 → f.figures ≤ 744
-  profile-count e = let g = v.gathering e in omega (arith, g.periods, g.figures)
+  unfolding is_refused progress_at progress_of
+  unrefused = before_refusal f.stage due (λ e. rw e) (λ e. rw e) (λ e. rw e)
 
   -- 31
   module _ (start : ℕ) (figures : List ℕ) where
-    first-turn : f.stage ≡ 0 → turn f start (get_or figures 0 0) ≡ in_turn (progress_of f k) start figures
-    unfolding turn in_turn
+    first-turn : f.stage ≡ First → turn f start (get_or figures 0 0) ≡ in_turn (progress_of f k) start figures
+    unfolding turn_at turn in_turn
     first-turn e = rw (begins_is f k e, e)
 
-    gather_turn_lem : f.stage ≡ 1 → turn f start (get_or figures 0 0) ≡ in_turn (progress_of f k) start figures
-    unfolding turn in_turn
+    gather_turn_lem : f.stage ≡ stage.Gathering → turn f start (get_or figures 0 0) ≡ in_turn (progress_of f k) start figures
+    unfolding turn_at turn in_turn
     gather_turn_lem e =
         let g = v.gathering e in
         rw (
           gathers_is f k e,
           e,
-          length-rows f.rows k.columns,
+          length-take-le f.rows k.plants (omega (arith, g.rows, g.plants, v.lent.plants)),
           length-take-le f.figures k.profile (omega (arith, g.periods, g.figures, v.lent.profile)),
         )
 
-    meter_turn_lem : f.stage ≡ 2 → turn f start (get_or figures 0 0) ≡ in_turn (progress_of f k) start figures
-    unfolding turn in_turn
+    meter_turn_lem : f.stage ≡ Metering → turn f start (get_or figures 0 0) ≡ in_turn (progress_of f k) start figures
+    unfolding turn_at turn in_turn
     meter_turn_lem e = rw (settles_is f k e, e)
 
     turn_is : turn f start (get_or figures 0 0) ≡ in_turn (progress_of f k) start figures
-    turn_is = by_stage f.stage due first-turn gather_turn_lem meter_turn_lem
+    turn_is = before_refusal f.stage due first-turn gather_turn_lem meter_turn_lem
 
   -- how many figures a line in turn has
   module _ (start period n : ℕ) (fits : count_fits start n ≡ true) (t : turn f start period ≡ true) where
-    three : f.stage ≡ 0 → n ≡ 3
-    unfolding turn
+    three : f.stage ≡ First → n ≡ 3
+    unfolding turn_at turn
     three e = month-fields n (rw (eqb-true start 1 (rw e at t)) at fits)
 
-    five : f.stage ≡ 1 → f.rows < f.plants → n ≡ 5
-    unfolding turn
+    five : f.stage ≡ stage.Gathering → f.rows < f.plants → n ≡ 5
+    unfolding turn_at turn
     five e h = plant-fields n (rw (eqb-true start 2 (rw (e, lt-ltb f.rows f.plants h) at t)) at fits)
 
-    two : f.stage ≡ 1 → f.plants ≤ f.rows → n ≡ 2
-    unfolding turn
+    two : f.stage ≡ stage.Gathering → f.plants ≤ f.rows → n ≡ 2
+    unfolding turn_at turn
     two e h =
         let b = both (eqb start 3) _ (rw (e, le-ltb f.rows f.plants h) at t) in
         period-fields n (rw (eqb-true start 3 b.0) at fits)
 
-    more : f.stage ≡ 2 → 2 ≤ n
-    unfolding turn
+    more : f.stage ≡ Metering → 2 ≤ n
+    unfolding turn_at turn
     more e = let b = both (eqb start 4) _ (rw e at t) in (meter_fields n (rw (eqb-true start 4 b.0) at fits)).0
 
-    gathering-some : f.stage ≡ 1 → 2 ≤ n
+    gathering-some : f.stage ≡ stage.Gathering → 2 ≤ n
     gathering-some e = by_cases (dec_lt f.rows f.plants) (λ h. omega (arith, five e h)) (λ h. omega (arith, two e (omega (arith, h))))
 
     figured : (figures : List ℕ) → length figures ≡ n → Figured f figures
     figured figures l =
         record {
           due = due;
-          some = by_stage f.stage due (λ e. omega (arith, l, three e)) (λ e. omega (arith, l, gathering-some e)) (λ e. omega (arith, l, more e));
+          some = before_refusal f.stage due (λ e. omega (arith, l, three e)) (λ e. omega (arith, l, gathering-some e)) (λ e. omega (arith, l, more e));
           sizes = λ e. omega (arith, l, three e);
           row = λ e h. omega (arith, l, five e h);
         }
@@ -145,7 +137,7 @@ pub line-number : (line old : List ℕ) {answer : Line} {new : List ℕ} → len
     → ◌≡◌ {A = ReadEnd} (record { answer = answer; figures = new }) (read_call line old) → answer.number ≡ read_number line 513
 line-number line old many e = read_number_lem line old e ∙ ap (read_number line) many
 
-module _ (f : MonthFile) (k : Kept) (v : Valid f k) (due : f.stage ≤ 2) (line old new : List ℕ) (answer : Line) (many : length old ≡ 513)
+module _ {f : MonthFile} {k : Kept} (v : Valid f k) (due : f.stage ≢ Refused) (line old new : List ℕ) (answer : Line) (many : length old ≡ 513)
     (e : ◌≡◌ {A = ReadEnd} (record { answer = answer; figures = new }) (read_call line old)) where
   pub reading_refused : (r : MonthFile) → r ≡ at_refusal f answer.number → (answer.number ≡ 0 → ⊥)
       → Moved f (read (f.count + 1) (progress_of f k) (whole line)) r k
@@ -166,8 +158,8 @@ module _ (f : MonthFile) (k : Kept) (v : Valid f k) (due : f.stage ≤ 2) (line 
     pub front : take answer.fields new ≡ figures
     front = ap (take answer.fields) (read-figures line old e z) ∙ take_at figures _ answer.fields count_is
 
-    pub room : answer.fields ≤ 513
-    room = omega (arith, yes.room, many, read_count line old e z)
+    pub fits : length new ≡ length old → answer.fields ≤ length new
+    fits l = omega (arith, l, yes.room, read_count line old e z)
 
     some-fields : 0 < length figures
     unfolding line_fields
@@ -180,7 +172,7 @@ module _ (f : MonthFile) (k : Kept) (v : Valid f k) (due : f.stage ≤ 2) (line 
     is_turn_lem = turn f answer.start (get_or new 0 0)
 
     asks_turn : is_turn_lem ≡ in_turn (progress_of f k) (line_start line) figures
-    asks_turn = rw (first_field_lem, read-start line old e z) (turn_is f k v due (line_start line) figures)
+    asks_turn = rw (first_field_lem, read-start line old e z) (turn_is v due (line_start line) figures)
 
     reads_as : (t : Bool) → in_turn (progress_of f k) (line_start line) figures ≡ t
         → read (f.count + 1) (progress_of f k) (whole line) ≡ cond t (taken (f.count + 1) (progress_of f k) figures) (file.refuses (f.count + 1) 31)
@@ -194,7 +186,7 @@ module _ (f : MonthFile) (k : Kept) (v : Valid f k) (due : f.stage ≤ 2) (line 
     -- in turn
     module _ (t : is_turn_lem ≡ true) where
       pub figures_in_turn : Figured f (take answer.fields new)
-      figures_in_turn = figured f k v due answer.start (get_or new 0 0) answer.fields (rw (read-start line old e z, read_count line old e z) yes.fits) t _ (ap length front ∙ count_is)
+      figures_in_turn = figured v due answer.start (get_or new 0 0) answer.fields (rw (read-start line old e z, read_count line old e z) yes.fits) t _ (ap length front ∙ count_is)
 
       pub line_taken : {r : MonthFile} {q : Kept} → Moved f (taken (f.count + 1) (progress_of f k) (take answer.fields new)) r q
           → Moved f (read (f.count + 1) (progress_of f k) (whole line)) r q

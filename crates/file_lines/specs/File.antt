@@ -3,7 +3,7 @@ use Rattle.std.specs.Prelude.{ℕ, ◌+◌, ◌*◌, Bool, true, false, cond, �
 use Rattle.lists.specs.Questions.{outcome}
 use Rattle.figures.specs.Figures.{figure, value}
 use Rattle.lines.specs.Reading.{line_start, line_fields, read_number}
-use Rattle.hour.specs.declared.Plant.{Plant}
+use Rattle.plants.specs.declared.Plant.{Plant}
 use Rattle.ledger.specs.Ledger.{Ledger, zeros}
 use Rattle.month.specs.declared.Month.{Month}
 use Rattle.questions.specs.Questions.{sizes_number}

@@ -3,17 +3,16 @@ ghost use Rattle.std.specs.Prelude.{◌≡◌, ◌+◌};
 ghost use Rattle.file_lines.specs.File.{begun};
 ghost use Rattle.file_lines.specs.State.{Kept, Lent, Moved, at_start};
 
-use crate::MonthFile;
-use crate::opening::blank;
-use questions::sizes_number;
+use crate::{FileStage, MonthFile};
+use month::Month;
+use questions::ask_sizes;
 
 // Before the first byte.
 pub fn fresh() -> MonthFile
     ensures { result ≡ at_start }
 {
-    let month = blank();
     MonthFile {
-        stage: 0,
+        stage: FileStage::First,
         length: 0,
         count: 0,
         plants: 0,
@@ -21,7 +20,7 @@ pub fn fresh() -> MonthFile
         tariff: 0,
         rows: 0,
         figures: 0,
-        month,
+        month: Month::default(),
         number: 0,
     }
 }
@@ -31,15 +30,15 @@ pub fn begun(file: MonthFile, periods: u64, plants: u64, tariff: u64) -> MonthFi
     requires { file.count ≡ 0 }
     ensures { (k : Kept) → Lent k → Moved file (begun (file.count + 1) (record { periods = periods; plants = plants; tariff = tariff })) result k }
 {
-    let no = sizes_number(plants, periods, tariff);
-    if no != 0 {
-        return file.refused(no);
+    match ask_sizes(plants, periods, tariff) {
+        Ok(()) => MonthFile {
+            plants,
+            periods,
+            tariff,
+            rows: 0,
+            figures: 0,
+            ..file.at_stage(FileStage::Gathering)
+        },
+        Err(refusal) => file.refused(refusal),
     }
-    let mut f = file.at_stage(1);
-    f.periods = periods;
-    f.plants = plants;
-    f.tariff = tariff;
-    f.rows = 0;
-    f.figures = 0;
-    f
 }

@@ -2,9 +2,11 @@
 #![tactic(auto)]
 
 ghost use Rattle.std.specs.Prelude.{◌≡◌, ◌<◌};
+ghost use Rattle.refusals.specs.Numbers.{refusal_number, number};
 ghost use Rattle.file_lines.specs.State.{at_stage, at_refusal, at_call};
 
 use month::Month;
+use refusals::Refusal;
 
 pub mod beginning;
 mod gathering;
@@ -13,10 +15,23 @@ mod settling;
 pub mod taking;
 mod turns;
 
-// How far the file has come. Stages: 0 the first line is due, 1 P and H lines, 2 G lines, 3 refused.
+// How far the lines have come.
+#[derive(Clone, Copy, PartialEq, Eq)]
+pub enum FileStage {
+    // the first line is due
+    First,
+    // P and H lines are due
+    Gathering,
+    // G lines are due
+    Metering,
+    // a line was refused
+    Refused,
+}
+
+// How far the file has come.
 #[derive(Clone, Copy)]
 pub struct MonthFile {
-    pub stage: u64,
+    pub stage: FileStage,
     // bytes of the line that has begun
     pub length: usize,
     // lines read
@@ -30,43 +45,49 @@ pub struct MonthFile {
     pub figures: usize,
     // once the last H line is taken
     pub month: Month,
-    // of the refusal
+    // of the refusal; no kind of refusal, since C may lend a state with any number
     pub number: u64,
 }
 
 impl MonthFile {
     // One more line read, at a stage.
-    pub fn at_stage(self, stage: u64) -> MonthFile
+    #[tactic(auto, unfolding(crate::specs::State::at_stage))]
+    pub fn at_stage(self, stage: FileStage) -> MonthFile
         requires { self.count < 10000 }
         ensures { result ≡ at_stage self stage }
     {
-        let mut f = self;
-        f.stage = stage;
-        f.length = 0;
-        f.count = self.count + 1;
-        f
+        MonthFile {
+            stage,
+            length: 0,
+            count: self.count + 1,
+            ..self
+        }
     }
 
     // The line just read is refused.
-    pub fn refused(self, number: u64) -> MonthFile
+    #[tactic(auto, unfolding(crate::specs::State::at_refusal, crate::specs::State::at_stage))]
+    pub fn refused(self, refusal: Refusal) -> MonthFile
         requires { self.count < 10000 }
-        ensures { result ≡ at_refusal self number }
+        ensures { result ≡ at_refusal self (refusal_number refusal) }
     {
-        let mut f = self.at_stage(3);
-        f.number = number;
-        f
+        MonthFile {
+            number: refusal.number(),
+            ..self.at_stage(FileStage::Refused)
+        }
     }
 
     // Open or settle has answered: the line is refused, or the month goes on among G lines.
-    pub fn after_call(self, number: u64, month: Month) -> MonthFile
+    #[tactic(auto, using(crate::proofs::Moves::answered), unfolding(crate::specs::State::at_call, crate::specs::State::at_stage, lists::specs::Questions::outcome))]
+    pub fn after<A: Copy>(self, answer: Result<A, Refusal>, month: Month) -> MonthFile
         requires { self.count < 10000 }
-        ensures { result ≡ at_call self number month }
+        ensures { result ≡ at_call self (number answer) month }
     {
-        if number != 0 {
-            return self.refused(number);
+        match answer {
+            Ok(_) => MonthFile {
+                month,
+                ..self.at_stage(FileStage::Metering)
+            },
+            Err(refusal) => self.refused(refusal),
         }
-        let mut f = self.at_stage(2);
-        f.month = month;
-        f
     }
 }

@@ -18,7 +18,7 @@ use Rattle.sharing.specs.Laws.{Lawful}
 use Rattle.sharing.proofs.Sharing.{adds-le}
 use Rattle.cover.specs.Cover.{own, got, rest}
 use Rattle.hour.specs.Hour.{Hour, submarkets, guaranteed, guarantees, secondary, covered, deficit, surplus, left_over, rights, own_cover, cover_table, cover_got, own_secondary, secondary_table, secondary_got, figure}
-use Rattle.hour.specs.declared.Plant.{Plant}
+use Rattle.plants.specs.declared.Plant.{Plant}
 use Rattle.cover.proofs.Cover.{Met, met, own-sized, got-sized}
 
 -- An hour with a lawful rule, whose plants stand in submarkets 1 to 4, with a metered figure for each

@@ -1,8 +1,6 @@
 -- Laws of an hour, for any lawful rule of sharing.
 pub mod Hour
 pub mod Figures
-pub mod Table
-pub mod Guarantees
 pub mod Allotment
 pub mod Limits
 pub mod Whole

@@ -1,25 +1,25 @@
 -- What each step of the code leaves is what the hour's definitions say. Assumes nothing.
-use mathlib.Core.Path.{◌≡◌, sym, ap, ap₂, ◌∙◌}
+use mathlib.Core.Path.{◌≡◌, sym, ap, ap₂}
 use mathlib.Core.List.{List}
 use Prim.Native.Nat.{ℕ, ◌-◌, ◌^◌, ◌≤◌}
 use native.Mathlib.Omega.{arith}
 use lib.IntN.{ℤ, sub_ℕ}
-use lib.ListN.{length}
 use Rattle.lists.specs.Lists.{sum, most, Within}
 use Rattle.lists.specs.Columns.{rowwise, ◌⊕◌, ◌⊖◌, ◌⊓◌, within, four, totals, by_row}
 use Rattle.sharing.specs.Sharing.{share}
 use Rattle.cover.specs.Cover.{table, rest, supplied}
 use Rattle.hour.specs.Hour.{Hour, hour_of, submarkets, guarantees, secondary, covered, deficit, surplus, left_over, rights, cover_table, secondary_table, nets}
-use Rattle.hour.specs.Table.{plants_of}
+use Rattle.plants.specs.declared.Plant.{Plant}
+use Rattle.plants.specs.Plants.{submarkets_of}
 use Rattle.rows.specs.Steps.{covered_by, rights_by}
 use Rattle.hour.specs.Work.{Workable}
-use Rattle.hour.proofs.Hour.{surplus-sum, covered-sum, rights-sum, left_over-sum, surplus-le, left_over-le, rows_b, rows_d, rows_r}
+use Rattle.hour.proofs.Hour.{surplus-sum, covered-sum, rights-sum, left_over-sum, surplus-le, left_over-le}
 use Rattle.hour.proofs.Allotment.{begun-small, first_small}
 use Rattle.hour.proofs.Limits.{sound, subs_are}
 
-module _ {ss ns gs ls vs profile : List ℕ} {k : ℕ} {metered lent : List ℕ} {lentNets : List ℤ} (w : Workable ss ns gs ls vs profile k metered lent lentNets) where
+module _ {plants : List Plant} {profile : List ℕ} {k : ℕ} {metered lent : List ℕ} {lentNets : List ℤ} (w : Workable plants profile k metered lent lentNets) where
   abbrev h : Hour
-  h = hour_of (plants_of ss ns gs ls vs) profile metered k
+  h = hour_of plants profile metered k
 
   generated : sum h.metered ≤ most
   unfolding hour_of
@@ -44,7 +44,7 @@ module _ {ss ns gs ls vs profile : List ℕ} {k : ℕ} {metered lent : List ℕ}
   unfolding hour_of deficit
   deficit_is e = ap (λ l. l ⊖ metered) e
 
-  pub surplus_is : {b : List ℕ} → b ≡ covered h → totals ss (metered ⊖ b) ≡ surplus h
+  pub surplus_is : {b : List ℕ} → b ≡ covered h → totals (submarkets_of plants) (metered ⊖ b) ≡ surplus h
   unfolding hour_of surplus
   surplus_is e = ap₂ (λ s l. totals s (metered ⊖ l)) (sym (subs_are w)) e
 
@@ -54,7 +54,7 @@ module _ {ss ns gs ls vs profile : List ℕ} {k : ℕ} {metered lent : List ℕ}
   nets_are e f = ap₂ (λ l m. rowwise sub_ℕ 0 0 metered (l ⊕ m)) e f
 
   pub begun_is : {b : List ℕ} → b ≡ covered h
-      → by_row 0 (four (λ s. within s ss (metered ⊓ b))) ≡ by_row 0 (four (λ s. within s (submarkets h) (h.metered ⊓ covered h)))
+      → by_row 0 (four (λ s. within s (submarkets_of plants) (metered ⊓ b))) ≡ by_row 0 (four (λ s. within s (submarkets h) (h.metered ⊓ covered h)))
   unfolding hour_of
   begun_is e = ap₂ (λ t l. by_row 0 (four (λ s. within s t (metered ⊓ l)))) (sym (subs_are w)) e
 
@@ -96,15 +96,6 @@ module _ {ss ns gs ls vs profile : List ℕ} {k : ℕ} {metered lent : List ℕ}
     left-small = rw ev (let a = left_over-le h (sound w) in let b = w.generation in omega arith)
 
   -- sizes
-  pub covered-sized : length (covered h) ≡ length ss
-  covered-sized = rows_b h (sound w) ∙ ap length (subs_are w)
-
-  pub rights-sized : length (rights h) ≡ length ss
-  rights-sized = rows_r h (sound w) ∙ ap length (subs_are w)
-
-  pub deficit-sized : length (deficit h) ≡ length ss
-  deficit-sized = rows_d h (sound w) ∙ ap length (subs_are w)
-
   pub covered-small : sum (covered h) ≤ most
   unfolding hour_of
   covered-small = let a = covered-sum h (sound w) in let b = w.generation in omega arith
@@ -114,9 +105,9 @@ module _ {ss ns gs ls vs profile : List ℕ} {k : ℕ} {metered lent : List ℕ}
   rights-small = let a = rights-sum h (sound w) in let b = covered-sum h (sound w) in let c = w.generation in omega arith
 
   -- no figure on the way passes 2 × 10^9
-  pub begun-low : {b : List ℕ} → b ≡ covered h → Within (by_row 0 (four (λ s. within s ss (metered ⊓ b)))) (2 ^ 62)
+  pub begun-low : {b : List ℕ} → b ≡ covered h → Within (by_row 0 (four (λ s. within s (submarkets_of plants) (metered ⊓ b)))) (2 ^ 62)
   begun-low eb = rw (begun_is eb) (begun-small h (sound w) generated)
 
   pub first-low : {t b u d : List ℕ} → t ≡ submarkets h → b ≡ covered h → u ≡ surplus h → d ≡ deficit h
-      → Within (by_row 0 (four (λ s. within s ss (metered ⊓ b))) ⊕ by_row 0 (four (supplied share t u d))) (2 ^ 62)
+      → Within (by_row 0 (four (λ s. within s (submarkets_of plants) (metered ⊓ b))) ⊕ by_row 0 (four (supplied share t u d))) (2 ^ 62)
   first-low et eb eu ed = rw (begun_is eb, supplied_is et eu ed) (first_small h (sound w) generated)

@@ -7,7 +7,7 @@ use Rattle.sharing.specs.Sharing.{Rule, share}
 use Rattle.cover.specs.Cover.{own_parts, table, got, rest}
 use Rattle.modulation.specs.Guarantee.{modulated_in, reduced_by}
 use Rattle.rows.specs.Steps.{covered_by, rights_by}
-use Rattle.hour.specs.declared.Plant.{Plant}
+use Rattle.plants.specs.declared.Plant.{Plant}
 
 -- What an hour is worked from. Steps 3 to 7 share by its rule, step 1 by running totals
 pub record Hour : Type 0 where

@@ -1,15 +1,17 @@
-// The month file's state as a C program keeps it, and its calls. The state holds a month, so it crosses with the month's stage as a number too.
-#![tactic(auto)]
+// The month file's state and lists as a C program keeps them, and its calls. The stages of the state and of its month cross as numbers, and the plant
+// table as five columns.
+#![tactic(auto, unfolding(crate::specs::Files::stage_of, crate::specs::Files::stage_number, crate::specs::Files::file_of, crate::specs::Files::kept_at, crate::specs::Files::kept_file_of))]
 
-ghost use Rattle.std.specs.Prelude.{◌≡◌};
-ghost use Rattle.file_lines.specs.State.{kept, at_start};
-ghost use Rattle.month_file.specs.Run.{place};
-ghost use Rattle.file_calls.specs.Checking.{FinishedAny};
-ghost use Rattle.kept_file.specs.Files.{file_of, kept_file_of, FileFed};
+ghost use Rattle.std.specs.Prelude.{◌≡◌, cond, ltb};
+ghost use Rattle.refusals.specs.Numbers.{refusal_number};
+ghost use Rattle.file_lines.specs.State.{at_start};
+ghost use Rattle.kept_file.specs.Files.{file_of, kept_at, kept_file_of, kept_lists, FileFed, FileFinished};
 
-use file_calls::FinishAnswer;
-use file_lines::MonthFile;
-use kept_month::{KeptMonth, kept_of, month_of};
+use file_calls::{FinishAnswer, feed_any, finish_any};
+use file_lines::{FileStage, MonthFile};
+use kept_month::KeptMonth;
+use records::{COLUMNS, plants_of, put_plants};
+use refusals::Refusal;
 
 // How far a month file has come, as the caller keeps it.
 #[repr(C)]
@@ -36,39 +38,46 @@ pub struct KeptFed {
 }
 
 // The state that is meant.
-fn file_of(kept: KeptFile) -> MonthFile
-    ensures { result ≡ file_of kept }
-{
-    let month = month_of(kept.month);
-    MonthFile {
-        stage: kept.stage,
-        length: kept.length as usize,
-        count: kept.count,
-        plants: kept.plants,
-        periods: kept.periods,
-        tariff: kept.tariff,
-        rows: kept.rows as usize,
-        figures: kept.figures as usize,
-        month,
-        number: kept.number,
+impl From<KeptFile> for MonthFile {
+    ghost from_gives = { λ kept file. file ≡ file_of kept };
+
+    fn from(kept: KeptFile) -> MonthFile {
+        MonthFile {
+            stage: match kept.stage {
+                0 => FileStage::First,
+                1 => FileStage::Gathering,
+                2 => FileStage::Metering,
+                _ => FileStage::Refused,
+            },
+            length: kept.length as usize,
+            count: kept.count,
+            plants: kept.plants,
+            periods: kept.periods,
+            tariff: kept.tariff,
+            rows: kept.rows as usize,
+            figures: kept.figures as usize,
+            month: kept.month.into(),
+            number: kept.number,
+        }
     }
 }
 
-fn kept_file_of(file: MonthFile) -> KeptFile
-    ensures { result ≡ kept_file_of file }
-{
-    let month = kept_of(file.month);
-    KeptFile {
-        stage: file.stage,
-        length: file.length as u64,
-        count: file.count,
-        plants: file.plants,
-        periods: file.periods,
-        tariff: file.tariff,
-        rows: file.rows as u64,
-        figures: file.figures as u64,
-        month,
-        number: file.number,
+impl From<MonthFile> for KeptFile {
+    ghost from_gives = { λ file kept. kept ≡ kept_file_of file };
+
+    fn from(file: MonthFile) -> KeptFile {
+        KeptFile {
+            stage: file.stage as u64,
+            length: file.length as u64,
+            count: file.count,
+            plants: file.plants,
+            periods: file.periods,
+            tariff: file.tariff,
+            rows: file.rows as u64,
+            figures: file.figures as u64,
+            month: file.month.into(),
+            number: file.number,
+        }
     }
 }
 
@@ -76,8 +85,30 @@ fn kept_file_of(file: MonthFile) -> KeptFile
 pub fn begin_kept() -> KeptFile
     ensures { result ≡ kept_file_of at_start }
 {
-    let file = file_lines::beginning::fresh();
-    kept_file_of(file)
+    file_lines::beginning::fresh().into()
+}
+
+// The state after a part that was taken. A stage above 2, which was read as refused, stays the number that it was.
+fn taken(kept: KeptFile, file: MonthFile) -> KeptFile
+    ensures { result ≡ cond (ltb 2 kept.stage) (kept_at kept.stage (file_of kept)) (kept_file_of file) }
+{
+    if 2 < kept.stage {
+        return KeptFile {
+            stage: kept.stage,
+            ..MonthFile::from(kept).into()
+        };
+    }
+    file.into()
+}
+
+// A part that was not taken: the caller's own state comes back.
+fn refused(file: KeptFile, refusal: Refusal) -> KeptFed
+    ensures { result ≡ record { number = refusal_number refusal; file = file } }
+{
+    KeptFed {
+        number: refusal.number(),
+        file,
+    }
 }
 
 // file_calls::feed_any.
@@ -90,19 +121,30 @@ pub fn feed_kept(
     allotted: &mut [u64],
     accounts: &mut [i64],
 ) -> KeptFed
-    ensures { FileFed file (kept columns.old profile.old allotted.old accounts.old) line.old part.now result (kept columns.new profile.new allotted.new accounts.new) line.new }
+    ensures { FileFed file (kept_lists columns.old profile.old allotted.old accounts.old) line.old part.now result (kept_lists columns.new profile.new allotted.new accounts.new) line.new }
 {
-    let meant = file_of(file);
-    let fed = file_calls::feed_any(meant, part, line, columns, profile, allotted, accounts);
-    if fed.number != 0 {
-        return KeptFed {
-            number: fed.number,
-            file,
-        };
+    if columns.len() < COLUMNS {
+        return refused(file, Refusal::ListLength);
     }
-    KeptFed {
-        number: fed.number,
-        file: kept_file_of(fed.file),
+    let mut plants = plants_of(columns);
+    let mut meant = MonthFile::from(file);
+    match feed_any(
+        &mut meant,
+        part,
+        line,
+        &mut plants,
+        profile,
+        allotted,
+        accounts,
+    ) {
+        Ok(()) => {
+            put_plants(columns, &plants);
+            KeptFed {
+                number: 0,
+                file: taken(file, meant),
+            }
+        }
+        Err(refusal) => refused(file, refusal),
     }
 }
 
@@ -116,8 +158,20 @@ pub fn finish_kept(
     accounts: &[i64],
     text: &mut [u8],
 ) -> FinishAnswer
-    ensures { FinishedAny (place (file_of file) (kept columns.now profile.now allotted.now accounts.now) line.now) text.old result text.new }
+    ensures { FileFinished file (kept_lists columns.now profile.now allotted.now accounts.now) line.now text.old result text.new }
 {
-    let meant = file_of(file);
-    file_calls::finish_any(meant, line, columns, profile, allotted, accounts, text)
+    if columns.len() < COLUMNS {
+        return FinishAnswer::from(Err(Refusal::ListLength));
+    }
+    let plants = plants_of(columns);
+    finish_any(
+        file.into(),
+        line,
+        &plants,
+        profile,
+        allotted,
+        accounts,
+        text,
+    )
+    .into()
 }

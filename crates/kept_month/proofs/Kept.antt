@@ -2,27 +2,22 @@
 use mathlib.Core.Path.{◌≡◌, refl, sym, ◌∙◌}
 use mathlib.Core.List.{List}
 use Prim.Native.Nat.{ℕ, zero, suc}
-use borrow.Author.Tests.{eq-eqb, ne_eqb}
-use lib.IntN.{ℤ}
 use lib.ListN.{length}
 use Rattle.lists.specs.Questions.{outcome}
 use Rattle.lists.proofs.Questions.{same_either, outcome-part}
-use Rattle.hour.specs.declared.Plant.{Plant}
+use Rattle.std.specs.Prelude.{Result}
+use Rattle.refusals.specs.declared.Refusal.{Refusal}
+use Rattle.plants.specs.declared.Plant.{Plant}
 use Rattle.ledger.specs.Ledger.{Ledger}
 use Rattle.month.specs.declared.Month.{Month}
-use Rattle.month.specs.declared.Settled.{Settled}
-use Rattle.month.specs.declared.Ended.{Ended}
-use Rattle.month.specs.declared.Balanced.{Balanced}
-use Rattle.month.specs.declared.Stated.{Stated}
-use Rattle.month.specs.declared.Sized.{Sized}
 use Rattle.month.specs.declared.Stage.{Stage}
 use Rattle.month.specs.declared.Stage.TheVariants.{Blank, Open, Closed}
+use Rattle.month.specs.Answers.{Ended, Settled, Balanced, stated, sized}
 use Rattle.month.specs.Questions.{open_number, settle_number, close_number, balance_number}
 use Rattle.month.specs.Calls.{OpenEnd, open_call, SettleEnd, settle_call, balance_call, close_call}
 use Rattle.month.specs.Statement.{statement_number, StatementEnd, statement_call, Sizing}
 use Rattle.kept_month.specs.declared.KeptMonth.{KeptMonth}
 use Rattle.kept_month.specs.declared.KeptEnd.{KeptEnd}
-use Rattle.kept_month.specs.declared.KeptBalance.{KeptBalance}
 use Rattle.kept_month.specs.declared.KeptSettle.{KeptSettle}
 use Rattle.kept_month.specs.declared.KeptStated.{KeptStated}
 use Rattle.kept_month.specs.declared.KeptSized.{KeptSized}
@@ -30,18 +25,6 @@ use Rattle.kept_month.specs.Months.{stage_of, stage_number, month_of, kept_of, h
 use Rattle.kept_month.specs.Laws.{Months}
 
 -- ---- the stage
-
-pub stage_open : (n : ℕ) → n ≡ 1 → Open ≡ stage_of n
-unfolding stage_of
-stage_open n e = rw (eq-eqb n 1 e)
-
-pub stage_closed : (n : ℕ) → n ≡ 2 → Closed ≡ stage_of n
-unfolding stage_of
-stage_closed n e = rw e
-
-pub stage_blank : (n : ℕ) → (n ≡ 1 → ⊥) → (n ≡ 2 → ⊥) → Blank ≡ stage_of n
-unfolding stage_of
-stage_blank n h k = rw (ne_eqb n 1 h, ne_eqb n 2 k)
 
 stage_back : (s : Stage) → stage_of (stage_number s) ≡ s
 unfolding stage_of stage_number
@@ -63,28 +46,20 @@ pub settles : (k : KeptMonth) (plants : List Plant) (profile metered lent allotm
 unfolding settle_kept
 settles k plants profile metered lent allotment l after p e q = rw (q, ← p, ← e)
 
-pub closes : (k : KeptMonth) {m : Month} {x : Ended} {r : KeptEnd} → m ≡ month_of k → x ≡ close_call m → r ≡ ended_kept k x → r ≡ close_kept k
-unfolding close_kept
-closes k p e q = rw (q, e, p)
-
-pub balances : (k : KeptMonth) (l : Ledger) {m : Month} {b : Balanced} {net money : ℤ} → m ≡ month_of k → b ≡ balance_call m l → net ≡ b.net → money ≡ b.money
-    → ◌≡◌ {A = KeptBalance} (record { number = b.number; month = k; columns = b.columns; net = net; money = money }) (balance_kept k l)
-unfolding balance_kept
-balances k l p q r s = rw (r, s, q, p)
-
-pub states : (k : KeptMonth) (plants : List Plant) (l : Ledger) (lent after : List ℕ) {m : Month} {x : Stated} {r : KeptStated} → m ≡ month_of k
-    → ◌≡◌ {A = StatementEnd} (record { answer = x; bytes = after }) (statement_call m plants l lent) → r ≡ stated_kept k x
+pub states : (k : KeptMonth) (plants : List Plant) (l : Ledger) (lent after : List ℕ) (a : Result ℕ Refusal) {m : Month} {r : KeptStated} → m ≡ month_of k
+    → ◌≡◌ {A = StatementEnd} (record { answer = stated a m; bytes = after }) (statement_call m plants l lent) → r ≡ stated_kept k (stated a (month_of k))
     → ◌≡◌ {A = StatementKeptEnd} (record { answer = r; bytes = after }) (statement_kept k plants l lent)
 unfolding statement_kept
-states k plants l lent after p e q = rw (q, ← p, ← e)
+states k plants l lent after a p e q = rw (q, ← p, ← e)
 
-pub sizes : (k : KeptMonth) (plants : List Plant) (l : Ledger) {m : Month} {x : Sized} {r : KeptSized} → m ≡ month_of k → Sizing m plants l x → r ≡ sized_kept k x
-    → SizeKept k plants l r
+pub sizes : (k : KeptMonth) (plants : List Plant) (l : Ledger) (a : Result ℕ Refusal) {m : Month} {r : KeptSized} → m ≡ month_of k → Sizing m plants l (sized a m)
+    → r ≡ sized_kept k (sized a (month_of k)) → SizeKept k plants l r
 unfolding sized_kept
-sizes k plants l {m} {x} p s q =
+sizes k plants l a {m} p s q =
+    let x = sized a m in
     let own : Sizing m plants l (record { number = x.number; month = m; size = x.size }) =
     record { number = s.number; month = refl; refused = s.refused; enough = s.enough; most = s.most } in
-    rw q (record { month = refl; sizing = rw (← p) own })
+    rw (q, ← p) (record { month = refl; sizing = rw (← p) own })
 
 -- ---- the promises
 

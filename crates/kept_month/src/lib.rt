@@ -1,10 +1,13 @@
 // The month as a C program keeps it, and its calls. A month with an enum cannot cross: C keeps one whose stage is a number.
-#![tactic(auto)]
+#![tactic(auto, unfolding(crate::specs::Months::month_of, crate::specs::Months::stage_of, crate::specs::Months::kept_of, crate::specs::Months::stage_number, crate::specs::Months::handed_back, crate::specs::Months::told, crate::specs::Months::ended_kept, crate::specs::Months::settled_kept, crate::specs::Months::close_kept, crate::specs::Months::balance_kept, crate::specs::Months::stated_kept, crate::specs::Months::sized_kept, lists::specs::Questions::outcome))]
 
 ghost use Rattle.std.specs.Prelude.{◌≡◌};
-ghost use Rattle.kept_month.specs.Months.{stage_of, stage_number, month_of, kept_of, handed_back, ended_kept, settled_kept, close_kept, balance_kept, stated_kept, sized_kept};
+ghost use Rattle.month.specs.Answers.{ended, settled, stated, sized};
+ghost use Rattle.kept_month.specs.Months.{month_of, kept_of, handed_back, told, ended_kept, settled_kept, close_kept, balance_kept, stated_kept, sized_kept};
 
-use month::{Ended, Month, Settled, Sized, Stage, Stated};
+use hour::Worked;
+use month::{Balance, Month, Stage};
+use refusals::{Refusal, number_of};
 use transfer::Table;
 
 // A month as the caller keeps it. Stage: 0 blank, 1 open, 2 closed; any other number is read as blank.
@@ -17,6 +20,8 @@ pub struct KeptMonth {
     pub tariff: u64,
     pub due: u64,
 }
+
+// The answers, each a struct of its own with the number first: the C interface needs them, since C has neither a Result nor a generic struct.
 
 // What open and close answer: the number, and the month handed back.
 #[repr(C)]
@@ -67,90 +72,95 @@ pub struct KeptSized {
     pub size: u64,
 }
 
-fn stage_of(number: u64) -> Stage
-    ensures { result ≡ stage_of number }
-{
-    if number == 1 {
-        return Stage::Open;
-    }
-    if number == 2 {
-        return Stage::Closed;
-    }
-    Stage::Blank
-}
+// The figures beside a refusal.
+const NO_TABLE: Table = Table { rows: [[0; 4]; 4] };
 
-fn stage_number(stage: Stage) -> u64
-    ensures { result ≡ stage_number stage }
-{
-    match stage {
-        Stage::Blank => 0,
-        Stage::Open => 1,
-        Stage::Closed => 2,
-    }
-}
+const NOTHING: Worked = Worked {
+    secondary: 0,
+    guarantees: 0,
+    cover_table: NO_TABLE,
+    secondary_table: NO_TABLE,
+};
+
+const NO_SUMS: Balance = Balance {
+    columns: [0; 4],
+    net: 0,
+    money: 0,
+};
 
 // The month that is meant.
-pub fn month_of(kept: KeptMonth) -> Month
-    ensures { result ≡ month_of kept }
-{
-    let stage = stage_of(kept.stage);
-    Month {
-        stage,
-        plants: kept.plants,
-        periods: kept.periods,
-        tariff: kept.tariff,
-        due: kept.due,
+impl From<KeptMonth> for Month {
+    ghost from_gives = { λ kept month. month ≡ month_of kept };
+
+    fn from(kept: KeptMonth) -> Month {
+        Month {
+            stage: match kept.stage {
+                1 => Stage::Open,
+                2 => Stage::Closed,
+                _ => Stage::Blank,
+            },
+            plants: kept.plants,
+            periods: kept.periods,
+            tariff: kept.tariff,
+            due: kept.due,
+        }
     }
 }
 
-pub fn kept_of(month: Month) -> KeptMonth
-    ensures { result ≡ kept_of month }
-{
-    let stage = month.stage;
-    KeptMonth {
-        stage: stage_number(stage),
-        plants: month.plants,
-        periods: month.periods,
-        tariff: month.tariff,
-        due: month.due,
+impl From<Month> for KeptMonth {
+    ghost from_gives = { λ month kept. kept ≡ kept_of month };
+
+    fn from(month: Month) -> KeptMonth {
+        KeptMonth {
+            stage: month.stage as u64,
+            plants: month.plants,
+            periods: month.periods,
+            tariff: month.tariff,
+            due: month.due,
+        }
     }
 }
 
-// Accepted, the call's month; refused, the caller's own.
-fn handed_back(number: u64, kept: KeptMonth, month: Month) -> KeptMonth
-    ensures { result ≡ handed_back number kept month }
+// Accepted, the month after the call; refused, the caller's own. By the number, which the C interface needs beside it.
+fn handed_back(number: u64, month: KeptMonth, after: Month) -> KeptMonth
+    ensures { result ≡ handed_back number month after }
 {
-    if number != 0 {
-        return kept;
+    if number == 0 { after.into() } else { month }
+}
+
+// The number of a call's answer, and its figures: zeros beside a refusal.
+fn told<A: Copy>(answer: Result<A, Refusal>, zeros: A) -> (u64, A)
+    ensures { result ≡ told answer zeros }
+{
+    match answer {
+        Ok(figures) => (0, figures),
+        Err(refusal) => (refusal.number(), zeros),
     }
-    kept_of(month)
 }
 
 // Open's and close's answer as C gets it.
-pub fn ended_kept(month: KeptMonth, ended: Ended) -> KeptEnd
-    ensures { result ≡ ended_kept month ended }
+pub fn ended_kept(month: KeptMonth, after: Month, answer: Result<(), Refusal>) -> KeptEnd
+    ensures { result ≡ ended_kept month (ended answer after) }
 {
-    let after = ended.month;
+    let number = number_of(answer);
     KeptEnd {
-        number: ended.number,
-        month: handed_back(ended.number, month, after),
+        number,
+        month: handed_back(number, month, after),
     }
 }
 
 // Settle's answer as C gets it.
-pub fn settled_kept(month: KeptMonth, settled: Settled) -> KeptSettle
-    ensures { result ≡ settled_kept month settled }
+pub fn settled_kept(month: KeptMonth, after: Month, answer: Result<Worked, Refusal>) -> KeptSettle
+    ensures { result ≡ settled_kept month (settled answer after) }
 {
-    let after = settled.month;
-    let cover_table = settled.cover_table;
-    let secondary_table = settled.secondary_table;
+    let (number, worked) = told(answer, NOTHING);
     KeptSettle {
-        number: settled.number,
-        month: handed_back(settled.number, month, after),
-        secondary: settled.secondary,
-        guarantees: settled.guarantees,
-        cover_table,
-        secondary_table,
+        number,
+        month: handed_back(number, month, after),
+        secondary: worked.secondary,
+        guarantees: worked.guarantees,
+        cover_table: worked.cover_table,
+        secondary_table: worked.secondary_table,
     }
 }
 
@@ -158,18 +168,19 @@ pub fn settled_kept(month: KeptMonth, settled: Settled) -> KeptSettle
 pub fn close_kept(month: KeptMonth) -> KeptEnd
     ensures { result ≡ close_kept month }
 {
-    let ended = month_of(month).close();
-    ended_kept(month, ended)
+    let mut after = Month::from(month);
+    let answer = after.close();
+    ended_kept(month, after, answer)
 }
 
 // Month::balance.
 pub fn balance_kept(month: KeptMonth, allotted: &[u64], accounts: &[i64]) -> KeptBalance
     ensures { result ≡ balance_kept month (record { allotted = allotted.now; accounts = accounts.now }) }
 {
-    let balance = month_of(month).balance(allotted, accounts);
+    let (number, balance) = told(Month::from(month).balance(allotted, accounts), NO_SUMS);
     let columns = balance.columns;
     KeptBalance {
-        number: balance.number,
+        number,
         month,
         columns,
         net: balance.net,
@@ -178,23 +189,25 @@ pub fn balance_kept(month: KeptMonth, allotted: &[u64], accounts: &[i64]) -> Kep
 }
 
 // The statement's answer as C gets it.
-pub fn stated_kept(month: KeptMonth, stated: Stated) -> KeptStated
-    ensures { result ≡ stated_kept month stated }
+pub fn stated_kept(month: KeptMonth, answer: Result<usize, Refusal>) -> KeptStated
+    ensures { result ≡ stated_kept month (stated answer (month_of month)) }
 {
+    let (number, length) = told(answer, 0);
     KeptStated {
-        number: stated.number,
+        number,
         month,
-        length: stated.length,
+        length: length as u64,
     }
 }
 
 // The sizing call's answer as C gets it.
-pub fn sized_kept(month: KeptMonth, sized: Sized) -> KeptSized
-    ensures { result ≡ sized_kept month sized }
+pub fn sized_kept(month: KeptMonth, answer: Result<u64, Refusal>) -> KeptSized
+    ensures { result ≡ sized_kept month (sized answer (month_of month)) }
 {
+    let (number, size) = told(answer, 0);
     KeptSized {
-        number: sized.number,
+        number,
         month,
-        size: sized.size,
+        size,
     }
 }

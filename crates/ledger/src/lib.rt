@@ -1,7 +1,7 @@
 // The ledger (document 01, 'Plants, profile, ledger'): bounds, posting, columns and their sums.
 #![tactic(auto)]
 
-ghost use Rattle.std.specs.Prelude.{◌≡◌, ◌-◌, ◌*◌, ◌^◌, ◌≤◌, ◌<◌, pos, length, replicate};
+ghost use Rattle.std.specs.Prelude.{◌≡◌, ◌-◌, ◌*◌, ◌^◌, ◌≤◌, ◌<◌, length};
 ghost use Rattle.lists.specs.Lists.{Within, at_most, every, sum, sumℤ};
 ghost use Rattle.lists.specs.Columns.{◌⊕◌, ◌⊕ℤ◌, column, four};
 ghost use Rattle.signed.specs.Figures.{accounts_of, at_rate, is_within};
@@ -23,53 +23,25 @@ const KWH_BOUND: u64 = 1_488_000_000_000;
 
 const MONEY_BOUND: u64 = 14_880_000_000_000_000;
 
-// Sets every figure to zero.
-pub fn zero_figures(figures: &mut [u64])
-    ensures { figures.new ≡ replicate (length figures.old) 0 }
-{
-    let mut i: usize = 0;
-    while i < figures.len() {
-        figures[i] = 0;
-        i += 1;
-    }
-}
-
-// Sets every account to zero.
-pub fn zero_accounts(accounts: &mut [i64])
-    ensures { accounts.new ≡ replicate (length accounts.old) (pos 0) }
-{
-    let mut i: usize = 0;
-    while i < accounts.len() {
-        accounts[i] = 0;
-        i += 1;
-    }
-}
-
 // Is every figure of the column that starts at `start` within a bound of zero?
 fn column_within(bound: u64, start: usize, accounts: &[i64]) -> bool
     ensures { result ≡ every (is_within bound) (column accounts_width start accounts.now) }
 {
-    let mut i = start;
-    while i < accounts.len() {
-        if !signed::is_within(bound, accounts[i]) {
-            return false;
-        }
-        i += ACCOUNTS;
-    }
-    true
+    accounts
+        .iter()
+        .skip(start)
+        .step_by(ACCOUNTS)
+        .all(|figure| signed::is_within(bound, *figure))
 }
 
 // Is every figure inside its bound? (19)
+#[tactic(auto, unfolding(crate::specs::Ledger::in_bounds))]
 pub fn in_bounds(allotted: &[u64], accounts: &[i64]) -> bool
     ensures { result ≡ in_bounds (record { allotted = allotted.now; accounts = accounts.now }) }
 {
-    if !lists::at_most(KWH_BOUND, allotted) {
-        return false;
-    }
-    if !column_within(KWH_BOUND, NET, accounts) {
-        return false;
-    }
-    column_within(MONEY_BOUND, MONEY, accounts)
+    lists::at_most(KWH_BOUND, allotted)
+        && column_within(KWH_BOUND, NET, accounts)
+        && column_within(MONEY_BOUND, MONEY, accounts)
 }
 
 // Is every figure at most a bound, with more added to each?
@@ -77,14 +49,10 @@ fn at_most_after(bound: u64, figures: &[u64], more: &[u64]) -> bool
     requires { Addable figures.now more.now }
     ensures { result ≡ at_most bound (figures.now ⊕ more.now) }
 {
-    let mut i: usize = 0;
-    while i < figures.len() {
-        if bound < figures[i] + more[i] {
-            return false;
-        }
-        i += 1;
-    }
-    true
+    figures
+        .iter()
+        .zip(more)
+        .all(|(figure, added)| *figure + *added <= bound)
 }
 
 // Adds a list to another, figure by figure.
@@ -92,26 +60,23 @@ fn add_figures(figures: &mut [u64], more: &[u64])
     requires { Addable figures.old more.now }
     ensures { figures.new ≡ figures.old ⊕ more.now }
 {
-    let mut i: usize = 0;
-    while i < more.len() {
-        figures[i] += more[i];
-        i += 1;
+    for (i, added) in more.iter().enumerate() {
+        figures[i] += *added;
     }
 }
 
 // Is every figure of the column that starts at `start` within a bound of zero, with each row's net added at a rate?
+// Beside column_within: no list holds these sums, and a function over any iterator would need laws of what it gives, for one line of code.
 fn column_within_after(bound: u64, start: usize, accounts: &[i64], nets: &[i64], rate: u64) -> bool
     requires { (start < accounts_width) × Payable accounts.now nets.now rate }
     ensures { result ≡ every (is_within bound) (column accounts_width start accounts.now ⊕ℤ at_rate rate nets.now) }
 {
-    let mut i: usize = 0;
-    while i < nets.len() {
-        let more = signed::times(nets[i], rate);
+    for (i, net) in nets.iter().enumerate() {
+        let more = signed::times(*net, rate);
         let figure = signed::plus(accounts[ACCOUNTS * i + start], more);
         if !signed::is_within(bound, figure) {
             return false;
         }
-        i += 1;
     }
     true
 }
@@ -121,17 +86,15 @@ fn add_accounts(accounts: &mut [i64], nets: &[i64], tariff: u64)
     requires { Payable accounts.old nets.now tariff }
     ensures { accounts.new ≡ accounts.old ⊕ℤ accounts_of tariff nets.now }
 {
-    let mut i: usize = 0;
-    while i < nets.len() {
-        let net = nets[i];
-        let money = signed::times(net, tariff);
-        signed::add_at(accounts, ACCOUNTS * i + NET, net);
+    for (i, net) in nets.iter().enumerate() {
+        let money = signed::times(*net, tariff);
+        signed::add_at(accounts, ACCOUNTS * i + NET, *net);
         signed::add_at(accounts, ACCOUNTS * i + MONEY, money);
-        i += 1;
     }
 }
 
 // Is every figure inside its bound once the hour is added? (19; nothing is written)
+#[tactic(auto, using(crate::proofs::Posting::bounds_after))]
 pub fn in_bounds_after(
     allotted: &[u64],
     accounts: &[i64],
@@ -142,13 +105,9 @@ pub fn in_bounds_after(
     requires { Postable (record { allotted = allotted.now; accounts = accounts.now }) allotment.now nets.now tariff }
     ensures { result ≡ in_bounds (added (record { allotted = allotted.now; accounts = accounts.now }) (hour_figures allotment.now nets.now tariff)) }
 {
-    if !at_most_after(KWH_BOUND, allotted, allotment) {
-        return false;
-    }
-    if !column_within_after(KWH_BOUND, NET, accounts, nets, 1) {
-        return false;
-    }
-    column_within_after(MONEY_BOUND, MONEY, accounts, nets, tariff)
+    at_most_after(KWH_BOUND, allotted, allotment)
+        && column_within_after(KWH_BOUND, NET, accounts, nets, 1)
+        && column_within_after(MONEY_BOUND, MONEY, accounts, nets, tariff)
 }
 
 // Adds an hour to the ledger.
@@ -172,13 +131,7 @@ fn column_sum(width: usize, start: usize, figures: &[u64]) -> u64
     requires { (0 < width) × (width ≤ 2 ^ 16) × (length figures.now ≤ 2 ^ 16) × Within figures.now kwh_bound }
     ensures { result ≡ sum (column width start figures.now) }
 {
-    let mut total: u64 = 0;
-    let mut i = start;
-    while i < figures.len() {
-        total += figures[i];
-        i += width;
-    }
-    total
+    figures.iter().skip(start).step_by(width).sum()
 }
 
 // The four column sums.
@@ -194,16 +147,14 @@ pub fn column_sums(allotted: &[u64]) -> [u64; 4]
     ]
 }
 
-// The sum of the accounts' column that starts at `start`.
+// The sum of the accounts' column that starts at `start`. A `for` beside column_sum: std's `sum` of signed figures gets no bound.
 pub fn account_sum(start: usize, accounts: &[i64]) -> i64
     requires { Summable accounts.now }
     ensures { result ≡ sumℤ (column accounts_width start accounts.now) }
 {
     let mut total: i64 = 0;
-    let mut i = start;
-    while i < accounts.len() {
-        total = signed::plus(total, accounts[i]);
-        i += ACCOUNTS;
+    for figure in accounts.iter().skip(start).step_by(ACCOUNTS) {
+        total = signed::plus(total, *figure);
     }
     total
 }

@@ -1,43 +1,26 @@
 -- Laws of commas and fields. Assumes nothing.
 use mathlib.Core.Path.{◌≡◌, refl, sym, ap, subst, ◌∙◌}
+use mathlib.Core.Logic.{by_cases}
 use mathlib.Core.Bool.{Bool, true, false}
 use mathlib.Core.List.{List, [], ◌∷◌}
 use Prim.Native.Nat.{ℕ, zero, suc, ◌+◌, ◌-◌, ◌≤◌, ◌<◌, zero-le}
+use native.Mathlib.Decide.{dec_lt}
 use native.Mathlib.Omega.{arith}
-use borrow.Author.Tests.{eq-eqb, ne_eqb, eqb-true, eqb-false}
-use lib.Dec.{eqb}
+use borrow.Author.Tests.{eq-eqb, ne_eqb, eqb-true, eqb-false, lt-ltb, le-ltb, lt-leb, le-leb}
+use lib.Dec.{eqb, leb, ltb}
+use Rattle.std.specs.Prelude.{count_by}
+use Rattle.std.specs.List.{onto_first, slice_split}
+use Rattle.std.proofs.lemmas.List.Splits.{length-slice_split}
 use lib.ListN.{length, take, drop, get_or, length-drop, drop_of_length-le}
 use lib.Seq.{get_or-drop, drop-drop, drop-nil, take_all, length-take-le}
-use Rattle.lists.proofs.Loops.{drop_more, at_drop}
+use Rattle.lists.proofs.Loops.{at_drop}
 use Rattle.lines.specs.Fields.{to_comma, next_comma, fields, to_first}
 use Rattle.lines.specs.Inner.{first_field, Starts}
 
--- ---- one byte more
-
-module _ (l : List ℕ) (i : ℕ) where
-  comma_end : length l ≤ i → to_comma (drop i l) ≡ 0
-  unfolding to_comma
-  comma_end h = rw (drop_of_length-le l {i = i} h)
-
-  comma_here : i < length l → get_or l i 0 ≡ 44 → to_comma (drop i l) ≡ 0
-  unfolding to_comma
-  comma_here h e = rw (drop_more l i 0, eq-eqb (get_or l i 0) 44 e)
-
-  comma-more : i < length l → (get_or l i 0 ≡ 44 → ⊥) → to_comma (drop i l) ≡ suc (to_comma (drop (i + 1) l))
-  unfolding to_comma
-  comma-more h n = rw (drop_more l i 0, ne_eqb (get_or l i 0) 44 n)
-
-  pub next_end : length l ≤ i → next_comma l i ≡ i
-  unfolding next_comma
-  next_end h = omega (arith, comma_end h)
-
-  pub next_here : i < length l → get_or l i 0 ≡ 44 → next_comma l i ≡ i
-  unfolding next_comma
-  next_here h e = omega (arith, comma_here h e)
-
-  pub next_more : i < length l → (get_or l i 0 ≡ 44 → ⊥) → next_comma l i ≡ next_comma l (i + 1)
-  unfolding next_comma
-  next_more h n = omega (arith, comma-more h n)
+-- past the line's end
+pub comma_end : (l : List ℕ) (i : ℕ) → length l ≤ i → to_comma (drop i l) ≡ 0
+unfolding to_comma
+comma_end l i h = rw (drop_of_length-le l {i = i} h)
 
 -- a law of lines follows from that of no bytes, and from that of the bytes behind a comma and behind another byte
 pub by_commas_lem : {P : List ℕ → Type 0} → P [] → ((bs : List ℕ) → P bs → P (44 ∷ bs)) → ((b : ℕ) (bs : List ℕ) → eqb b 44 ≡ false → P bs → P (b ∷ bs)) → (l : List ℕ) → P l
@@ -50,7 +33,7 @@ by_commas_lem {P} none comma other (b ∷ bs) = by (eqb b 44) refl (by_commas_le
 
 -- ---- the next comma lies inside the line
 
-comma-le : (l : List ℕ) → to_comma l ≤ length l
+pub comma-le : (l : List ℕ) → to_comma l ≤ length l
 unfolding to_comma
 comma-le = by_commas_lem (omega arith) (λ bs ih. omega arith) (λ b bs e ih. rw e (omega (arith, ih)))
 
@@ -127,15 +110,42 @@ module _ {l : List ℕ} {index : ℕ} where
       let none : left ≡ 0 = omega arith in
       record { there = λ q. sym s.rest ∙ rw none; absent = λ q. absurd (omega (arith, s.inside)) }
 
--- ---- a field by its index
-
 -- a line has a first field
-fields-first : (l : List ℕ) → fields l ≡ first_field l ∷ drop 1 (fields l)
+pub fields-first : (l : List ℕ) → fields l ≡ first_field l ∷ drop 1 (fields l)
 unfolding fields first_field to_comma to_first
 fields-first = by_commas_lem refl (λ bs ih. refl) (λ b bs e ih. rw (e, ih))
 
 pub fields-some : (l : List ℕ) → 0 < length (fields l)
 fields-some l = omega (arith, ap length (fields-first l))
+
+-- ---- std's words for the bytes before the first comma, and for the fields
+
+pub comma_none : to_comma [] ≡ 0
+unfolding to_comma
+comma_none = refl
+
+pub comma_hit : (b : ℕ) (bs : List ℕ) → b ≡ 44 → to_comma (b ∷ bs) ≡ 0
+unfolding to_comma
+comma_hit b bs e = rw (eq-eqb b 44 e)
+
+pub comma_miss : (b : ℕ) (bs : List ℕ) → (b ≡ 44 → ⊥) → to_comma (b ∷ bs) ≡ to_comma bs + 1
+unfolding to_comma
+comma_miss b bs n = rw (ne_eqb b 44 n) (omega arith)
+
+onto_first-is : (b : ℕ) (fs : List (List ℕ)) → 0 < length fs → onto_first b fs ≡ to_first b fs
+unfolding to_first
+onto_first-is b [] h = absurd (omega arith)
+onto_first-is b (f ∷ fs) h = refl
+
+pub split_fields : (l : List ℕ) → slice_split (λ b. eqb b 44) l ≡ fields l
+unfolding fields
+split_fields =
+    by_commas_lem refl (λ bs ih. ap (λ (fs : List (List ℕ)). [] ∷ fs) ih) (λ b bs e ih. rw (e, ih) (onto_first-is b (fields bs) (fields-some bs)))
+
+pub commas_counted : (l : List ℕ) → count_by (λ b. eqb b 44) l + 1 ≡ length (fields l)
+commas_counted l = sym (length-slice_split (λ b. eqb b 44) l) ∙ ap length (split_fields l)
+
+-- ---- a field by its index
 
 module _ {l : List ℕ} {index r : ℕ} (s : Starts l index r) where
   pub field_absent : length l < r → length (fields l) ≤ index
@@ -150,6 +160,12 @@ module _ {l : List ℕ} {index r : ℕ} (s : Starts l index r) where
 
     pub field_there : get_or (fields l) index [] ≡ first_field (drop r l)
     field_there = sym (at_drop (fields l) index []) ∙ ap (λ (fs : List (List ℕ)). get_or fs 0 []) whole
+
+-- a position in the line is that of a field there
+pub field_asked : (l : List ℕ) (index r : ℕ) → Starts l index r → leb r (length l) ≡ ltb index (length (fields l))
+field_asked l index r s =
+    by_cases (dec_lt (length l) r)
+    (λ h. lt-leb r (length l) h ∙ sym (le-ltb index (length (fields l)) (field_absent s h))) (λ h. le-leb r (length l) (omega arith) ∙ sym (lt-ltb index (length (fields l)) (field_present s (omega arith))))
 
 -- ---- the next comma is the first
 

@@ -1,215 +1,146 @@
--- Laws of reading: a loop that reads the fields of a line to the front of a list, and what the call answers. Assumes nothing.
+-- Laws of reading: a loop that reads the fields of a line to a list, and what the call answers. Assumes nothing.
 use mathlib.Core.Path.{◌≡◌, refl, sym, ap, ◌∙◌}
 use mathlib.Core.Logic.{by_cases}
-use mathlib.Core.Bool.{Bool, true, false, false≢true, ◌&&◌, and_assoc, and-true}
-use mathlib.Core.List.{List, [], ◌∷◌, ◌++◌, map, append_assoc, append-nil}
+use mathlib.Core.Bool.{Bool, true, false, false≢true, cond}
+use mathlib.Core.List.{List, [], ◌∷◌, ◌++◌, map, map-append}
 use Prim.Native.Nat.{ℕ, ◌+◌, ◌-◌, ◌≤◌, ◌<◌}
 use native.Mathlib.Numerals.{add-one}
 use native.Mathlib.Decide.{dec_lt}
 use native.Mathlib.Omega.{arith}
-use borrow.Author.Tests.{lt-ltb, le-leb, lt-leb}
-use lib.Dec.{ltb}
-use lib.ListN.{length, take, drop, set, length-set, length-map, take-append-drop}
-use lib.Seq.{take-suc-set, length-take-le, take_at}
+use lib.Dec.{leb, ltb}
+use lib.ListN.{length, take, drop, get_or, set, length-set, length-drop, drop_of_length-le}
+use lib.Seq.{take-suc-set, take-suc, take_all}
+use Rattle.std.specs.Prelude.{Option, Some, None, Ok}
+use Rattle.std.specs.Iterator.{Yields}
+use Rattle.std.proofs.lemmas.Iterator.{YieldsList}
+use Rattle.std.proofs.lemmas.Iterator.Consumers.{YieldsList-turn, YieldsList-end}
 use Rattle.lists.specs.Lists.{every}
-use Rattle.lists.specs.Questions.{first_no}
-use Rattle.lists.proofs.Loops.{kept-behind}
-use Rattle.lists.proofs.Questions.{both, refuses, accepts}
+use Rattle.lists.specs.Questions.{◌then◌, ◌⁇◌, first_no}
+use Rattle.lists.proofs.Loops.{Passing, passing, passing_more, halted, passed, drop_more}
+use Rattle.lists.proofs.Questions.{no, then_yes, refuses, accepts}
 use Rattle.figures.specs.Figures.{value, is_figure, ReadAs}
-use Rattle.lines.specs.Fields.{longest, next_comma, fields}
-use Rattle.lines.specs.Reading.{line_start, start_length, line_fields, count_fits, read_number, refusal, ReadEnd, read_call}
-use Rattle.lines.specs.Inner.{first_field, worth, ReadTo}
-use Rattle.lines.specs.declared.reading.Line.{Line}
+use Rattle.lines.specs.Fields.{longest, fields}
+use Rattle.lines.specs.Reading.{line_start, start_length, line_fields, count_fits, start_number, read_number, refusal, ReadEnd, read_call, line_of}
+use Rattle.lines.specs.Inner.{read_questions, ReadTo}
+use Rattle.lines.specs.declared.reading.ReadLine.{ReadLine}
+use Rattle.lines.specs.declared.reading.Start.{Start}
+use Rattle.lines.specs.declared.reading.Start.TheVariants.{Month, Plant, Period, Meter}
 use Rattle.lines.proofs.Starts.{too_many}
-use Rattle.lines.proofs.Commas.{fields-more, fields-last, fields-some, field_long}
 
 -- ---- a loop that reads fields
 
--- count fields are read, and those from `at` on are left
-pub record Gathering (line : List ℕ) (from : ℕ) (figures₀ : List ℕ) (at : ℕ) (good : Bool) (count : ℕ) (figures : List ℕ) : Type 0 where
-  pub inside : at ≤ length line
-  pub turns : count ≤ length figures₀
-  pub same : length figures ≡ length figures₀
-  pub counted : count + length (fields (drop at line)) ≡ length (fields (drop from line))
-  pub tested : (good && every is_figure (fields (drop at line))) ≡ every is_figure (fields (drop from line))
-  pub written : take count figures ++ map worth (fields (drop at line)) ≡ map worth (fields (drop from line))
-  pub kept : drop count figures ≡ drop count figures₀
+-- i fields are read
+pub record Gathering (fs : List (List ℕ)) (i : ℕ) (figures : List ℕ) : Type 0 where
+  pub same : length figures ≡ length fs
+  pub tested : Passing is_figure fs (drop i fs)
+  pub written : take i figures ≡ map value (take i fs)
 
-module _ {line : List ℕ} {from : ℕ} {figures₀ : List ℕ} where
-  module _ {at : ℕ} {good : Bool} {count : ℕ} {figures : List ℕ} (g : Gathering line from figures₀ at good count figures) (room : count < length figures)
-      {f : List ℕ} (this : f ≡ first_field (drop at line)) {v : ℕ} {ok : Bool} (r : ReadAs (is_figure f) f ok v) {good' : Bool} (both : good' ≡ (good && ok)) where
-    stored : v ≡ worth (first_field (drop at line))
-    unfolding worth
-    stored = r.stands ∙ rw this
+module _ {fs : List (List ℕ)} {figures : List ℕ} where
+  pub gathering : length figures ≡ length fs → Gathering fs 0 figures
+  gathering e = record { same = e; tested = passing; written = refl }
 
-    tried : ok ≡ is_figure (first_field (drop at line))
-    tried = r.said ∙ rw this
+  module _ {i : ℕ} (g : Gathering fs i figures) where
+    module _ (h : i < length fs) {f : List ℕ} (e : f ≡ get_or fs i []) {o : Option ℕ} (r : ReadAs (is_figure f) f o) where
+      pub gathering_more : {v : ℕ} → o ≡ Some v → Gathering fs (i + 1) (set figures i v)
+      gathering_more {v} s =
+          let good : is_figure f ≡ true = sym r.said ∙ rw s in
+          let worth : v ≡ value f = rw (s, good) at r.stands in
+          let inside : i < length figures = omega (arith, g.same) in
+          record {
+            same = length-set figures i v ∙ g.same;
+            tested = passing_more g.tested (drop_more fs i [] h) (sym (ap is_figure e) ∙ good);
+            written = rw (add-one, take-suc-set figures i v inside, take-suc fs i [] h, ← e, map-append, worth, g.written);
+          }
 
-    still : drop (count + 1) (set figures count v) ≡ drop (count + 1) figures₀
-    still = kept-behind figures figures₀ count v g.kept
+      pub gathering_stopped : o ≡ None → 29 ≡ first_no (every is_figure fs ⁇ 29 ∷ [])
+      gathering_stopped s = no _ 29 [] (sym (halted g.tested (drop_more fs i [] h) (sym (ap is_figure e) ∙ sym r.said ∙ rw s)))
 
-    front : take (count + 1) (set figures count v) ≡ take count figures ++ (worth (first_field (drop at line)) ∷ [])
-    front = rw (add-one, take-suc-set figures count v room, stored)
+    module _ (h : length fs ≤ i) where
+      pub gathered_number : 0 ≡ first_no (every is_figure fs ⁇ 29 ∷ [])
+      unfolding first_no
+      gathered_number = rw (← passed g.tested (drop_of_length-le fs {i = i} h))
 
-    ends_at : at + length f ≡ next_comma line at
-    ends_at = rw this (field_long line at g.inside)
+      pub gathered : figures ≡ map value fs
+      gathered = sym (take_all i figures (omega (arith, g.same))) ∙ g.written ∙ ap (map value) (take_all i fs h)
 
-    module _ (more : List (List ℕ)) (split : fields (drop at line) ≡ first_field (drop at line) ∷ more) where
-      counted : count + 1 + length more ≡ length (fields (drop from line))
-      counted = omega (arith, g.counted, ap length split)
+-- a turn and the end of a loop over an iterator, with the list that it gives last: antt then knows the iterator's calls when it reads that argument
+module _ {S A B : Type 0} {steps : S → Option A → S → Type 0} {s : S} (xs : List A) (t u : S) {r : Option A} (y : Yields steps s xs t) (p : steps t r u) {v : A → B} {all : List B} where
+  pub turn_of : {x : A} → r ≡ Some x → YieldsList steps v s all → (length xs < length all) × (v x ≡ get_or all (length xs) (v x))
+  turn_of {x} e road = YieldsList-turn road xs t y r u x e p
 
-      tested : (good' && every is_figure more) ≡ every is_figure (fields (drop from line))
-      unfolding every
-      tested =
-          ap (λ (b : Bool). b && every is_figure more) (both ∙ ap (λ (b : Bool). good && b) tried)
-          ∙ and_assoc good (is_figure (first_field (drop at line))) (every is_figure more)
-          ∙ (rw split at g.tested)
+  pub end_of : r ≡ None → YieldsList steps v s all → length xs ≡ length all
+  end_of e road = (YieldsList-end road xs t y r u e p).1
 
-      written : take (count + 1) (set figures count v) ++ map worth more ≡ map worth (fields (drop from line))
-      written = rw (front, append_assoc) (rw split at g.written)
+-- ---- the questions, with what a step has found
 
-    -- a comma follows
-    pub gathering-more : at + length f < length line → Gathering line from figures₀ (at + length f + 1) good' (count + 1) (set figures count v)
-    gathering-more h =
-        let split : fields (drop at line) ≡ first_field (drop at line) ∷ fields (drop (at + length f + 1) line)
-        = rw ends_at (fields-more line at g.inside (rw ends_at at h)) in
-        let more : List (List ℕ) = fields (drop (at + length f + 1) line) in
-        record {
-          inside = omega arith;
-          turns = omega (arith, g.same);
-          same = length-set figures count v ∙ g.same;
-          counted = counted more split;
-          tested = tested more split;
-          written = written more split;
-          kept = still;
-        }
+refused : (b : Bool) {n k : ℕ} → (n ≡ 0 → ⊥) → n ≡ cond b 0 k → (b ≡ false) × (n ≡ k)
+refused true h e = absurd (h e)
+refused false h e = (refl, e)
 
-    -- the line ends
-    pub gathered : length line ≤ at + length f → ReadTo (fields (drop from line)) figures₀ (set figures count v) (count + 1) good'
-    unfolding every
-    gathered h =
-        let split : fields (drop at line) ≡ first_field (drop at line) ∷ [] = fields-last line at g.inside (rw ends_at at h) in
-        let all : count + 1 ≡ length (fields (drop from line)) = omega (arith, counted [] split) in
-        let filled : take (count + 1) (set figures count v) ≡ map worth (fields (drop from line)) = sym (append-nil (take (count + 1) (set figures count v))) ∙ written [] split in
-        record {
-          many = λ p. omega arith;
-          counted = λ p. all;
-          tested = λ p. sym (and-true good') ∙ tested [] split;
-          written = λ p. sym (take-append-drop (count + 1) (set figures count v)) ∙ rw (still, filled, ← all);
-        }
+pub granted : (b : Bool) (k : ℕ) → 0 < k → ◌≡◌ {A = ℕ} 0 (cond b 0 k) → b ≡ true
+granted true k h e = refl
+granted false k h e = absurd (omega arith)
 
-  -- there is one field more than the list has places
-  pub crowded : {at : ℕ} {good : Bool} {count : ℕ} {figures : List ℕ} → Gathering line from figures₀ at good count figures → length figures ≤ count
-      → ReadTo (fields (drop from line)) figures₀ figures (count + 1) good
-  crowded {at} g h =
-      let least = fields-some (drop at line) in
-      record {
-        many = λ p. omega (arith, g.same);
-        counted = λ p. absurd (omega (arith, g.same, g.counted));
-        tested = λ p. absurd (omega (arith, g.same, g.counted));
-        written = λ p. absurd (omega (arith, g.same, g.counted));
-      }
+start_above : (start : Start) → ltb 0 (start_number start) ≡ true
+start_above Month = refl
+start_above Plant = refl
+start_above Period = refl
+start_above Meter = refl
 
--- ---- the front of a list, copied
-
-pub copied_front : (old : List ℕ) {after : List ℕ} (list : List ℕ) (count : ℕ) → count ≤ length list
-    → after ≡ take (count - 0) list ++ drop (length (take (count - 0) list)) old → after ≡ take count list ++ drop count old
-copied_front old list count h e =
-    let all : count - 0 ≡ count = omega arith in
-    e ∙ ap (λ (n : ℕ). take n list ++ drop (length (take n list)) old) all ∙ ap (λ (n : ℕ). take count list ++ drop n old) (length-take-le count list h)
-
--- ---- the questions
-
--- figures are worth their values
-worths : (fs : List (List ℕ)) → every is_figure fs ≡ true → map worth fs ≡ map value fs
-unfolding every worth
-worths [] e = refl
-worths (f ∷ fs) e =
-    let parts = both (is_figure f) (every is_figure fs) e in
-    rw (parts.0, worths fs parts.1)
-
--- what is known once the fields are read to a list of 513 places
-pub record Known (line : List ℕ) (start : ℕ) (list : List ℕ) (count : ℕ) (good : Bool) : Type 0 where
-  pub short : length line ≤ longest
-  pub is : start ≡ line_start line
-  pub some : start ≡ 0 → ⊥
-  pub size : length list ≡ 513
-  pub many : 513 < length (line_fields line) → 513 < count
-  pub counted : length (line_fields line) ≤ 513 → count ≡ length (line_fields line)
-  pub tested : length (line_fields line) ≤ 513 → good ≡ every is_figure (line_fields line)
-  pub holds : length (line_fields line) ≤ 513 → take (length (line_fields line)) list ≡ map worth (line_fields line)
-
-pub known : (line : List ℕ) (start from : ℕ) {own list : List ℕ} {count : ℕ} {good : Bool} → ReadTo (fields (drop from line)) own list count good → length own ≡ 513
-    → length list ≡ length own → length line ≤ longest → start ≡ line_start line → (start ≡ 0 → ⊥) → from ≡ start_length start → Known line start list count good
+-- the fields behind the start
+pub fields_behind : (line : List ℕ) {n : ℕ} → n ≡ start_length (line_start line) → fields (take (length line - n) (drop n line)) ≡ line_fields line
 unfolding line_fields
-known line start from {own} {list} {count} {good} read size same short is some e =
-    let r : ReadTo (line_fields line) own list count good = rw (← is, ← e) read in
-    record {
-      short = short;
-      is = is;
-      some = some;
-      size = same ∙ size;
-      many = λ p. omega (arith, r.many (omega (arith, size)));
-      counted = λ p. r.counted (rw size p);
-      tested = λ p. r.tested (rw size p);
-      holds = λ p. rw (r.written (rw size p)) (take_at (map worth (line_fields line)) (drop (length (line_fields line)) own) (length (line_fields line)) (length-map (line_fields line) worth));
-    }
+fields_behind line {n} e = ap fields (take_all (length line - n) (drop n line) (omega (arith, length-drop n line))) ∙ ap (λ (n : ℕ). fields (drop n line)) e
 
-module _ {line : List ℕ} {start : ℕ} {list : List ℕ} {count : ℕ} {good : Bool} (k : Known line start list count good) (places : ℕ) where
-  -- 28 may be put of the count
-  count_fits_lem : count_fits start count ≡ count_fits (line_start line) (length (line_fields line))
-  count_fits_lem =
-      by_cases (dec_lt 513 (length (line_fields line)))
-      (λ many. too_many start count (k.many many) ∙ sym (too_many (line_start line) (length (line_fields line)) many)) (λ few. rw (k.is, k.counted (omega arith)))
+-- a start is found, and its fields are counted
+pub record Begun (line : List ℕ) (start : Start) (count : ℕ) : Type 0 where
+  pub short : leb (length line) longest ≡ true
+  pub is : start_number start ≡ line_start line
+  pub counted : count ≡ length (line_fields line)
 
-  started : ltb 0 (line_start line) ≡ true
-  started = lt-ltb 0 (line_start line) (omega (arith, k.is, k.some))
+module _ {line : List ℕ} {start : Start} {count : ℕ} (k : Begun line start count) where
+  pub number-28 : {n : ℕ} → (n ≡ 0 → ⊥) → n ≡ cond (count_fits (start_number start) count) 0 28 → n ≡ first_no (read_questions line)
+  unfolding first_no
+  number-28 h e = let q = refused (count_fits (start_number start) count) h e in rw (k.short, ← k.is, start_above start, ← k.counted, q.0) q.1
 
-  pub number-28 : count_fits start count ≡ false → 28 ≡ read_number line places
-  unfolding read_number first_no
-  number-28 e = rw (le-leb (length line) longest k.short, started, ← count_fits_lem, e)
+  module _ (e : ◌≡◌ {A = ℕ} 0 (cond (count_fits (start_number start) count) 0 28)) where
+    fits : count_fits (start_number start) count ≡ true
+    fits = granted (count_fits (start_number start) count) 28 (omega arith) e
 
-  module _ (f : count_fits start count ≡ true) where
-    few : length (line_fields line) ≤ 513
-    few =
-        by_cases (dec_lt 513 (length (line_fields line)))
-        (λ many. absurd (false≢true (sym (too_many (line_start line) (length (line_fields line)) many) ∙ sym count_fits_lem ∙ f))) (λ few. omega arith)
+    pub number_rest : {n : ℕ} → n ≡ first_no (every is_figure (line_fields line) ⁇ 29 ∷ []) → n ≡ first_no (read_questions line)
+    unfolding first_no
+    number_rest p = rw (k.short, ← k.is, start_above start, ← k.counted, fits) p
 
-    pub count_is : count ≡ length (line_fields line)
-    count_is = k.counted few
-
-    pub count_low : count ≤ 513
-    count_low = omega (arith, count_is, few)
-
-    pub number-29 : good ≡ false → 29 ≡ read_number line places
-    unfolding read_number first_no
-    number-29 e = rw (le-leb (length line) longest k.short, started, ← count_fits_lem, f, ← k.tested few, e)
-
-    module _ (g : good ≡ true) where
-      pub number-30 : places < count → 30 ≡ read_number line places
-      unfolding read_number first_no
-      number-30 e = rw (le-leb (length line) longest k.short, started, ← count_fits_lem, f, ← k.tested few, g, lt-leb (length (line_fields line)) places (rw count_is at e))
-
-      pub number-0 : count ≤ places → 0 ≡ read_number line places
-      unfolding read_number first_no
-      number-0 e = rw (le-leb (length line) longest k.short, started, ← count_fits_lem, f, ← k.tested few, g, le-leb (length (line_fields line)) places (rw count_is at e))
-
-      -- each field is worth its value
-      pub figures_are : take count list ≡ map value (line_fields line)
-      figures_are = ap (λ (n : ℕ). take n list) count_is ∙ k.holds few ∙ worths (line_fields line) (sym (k.tested few) ∙ g)
+    pub count_few : count ≤ 513
+    count_few = by_cases (dec_lt 513 count) (λ h. absurd (false≢true (sym (too_many (start_number start) count h) ∙ fits))) (λ h. omega arith)
 
 -- ---- what the call leaves
 
-module _ (line old : List ℕ) where
-  pub refused_with : (n : ℕ) {answer : Line} → answer ≡ refusal n → n ≡ read_number line (length old) → (n ≡ 0 → ⊥)
-      → ◌≡◌ {A = ReadEnd} (record { answer = answer; figures = old }) (read_call line old)
-  unfolding read_call
-  refused_with n e p h = refuses n (read_number line (length old)) _ _ _ p h (rw e)
+abbrev answered : Bool → Bool → Bool → Bool → ℕ → ℕ
+answered a b c d n = cond a (cond b (cond c (cond d n 29) 28) 27) 26
 
-  pub accepted_with : {start : ℕ} {list : List ℕ} {count : ℕ} {good : Bool} {after : List ℕ} → Known line start list count good → count_fits start count ≡ true → good ≡ true
-      → count ≤ length old → after ≡ take count list ++ drop count old
-      → ◌≡◌ {A = ReadEnd} (record { answer = record { number = 0; start = start; fields = count }; figures = after }) (read_call line old)
+-- the last question is put where the others are answered yes
+split_last : (a b c d : Bool) (n : ℕ) → answered a b c d n ≡ answered a b c d 0 then n
+unfolding ◌then◌
+split_last false b c d n = refl
+split_last true false c d n = refl
+split_last true true false d n = refl
+split_last true true true false n = refl
+split_last true true true true n = refl
+
+pub number_split : (line : List ℕ) (places : ℕ) → read_number line places ≡ first_no (read_questions line) then cond (leb (length (line_fields line)) places) 0 30
+unfolding read_number first_no
+number_split line places =
+    split_last (leb (length line) longest) (ltb 0 (line_start line)) (count_fits (line_start line) (length (line_fields line))) (every is_figure (line_fields line)) (cond (leb (length (line_fields line)) places) 0 30)
+
+module _ (line old : List ℕ) where
+  pub refused_with : {n : ℕ} → (n ≡ 0 → ⊥) → n ≡ read_number line (length old) → ◌≡◌ {A = ReadEnd} (record { answer = refusal n; figures = old }) (read_call line old)
   unfolding read_call
-  accepted_with k f g h e =
-      accepts 0 (read_number line (length old)) _ _ _ (number-0 k (length old) f g h) refl
-      (rw (e, figures_are k (length old) f g, k.is, count_is k (length old) f))
+  refused_with {n} h e = refuses n (read_number line (length old)) _ _ _ e h refl
+
+  pub accepted_with : {read : ReadLine} {list after : List ℕ} → 0 ≡ first_no (read_questions line) → ReadTo line read list → ◌≡◌ {A = ℕ} 0 (cond (leb read.fields (length old)) 0 30)
+      → after ≡ take read.fields list ++ drop read.fields old → ◌≡◌ {A = ReadEnd} (record { answer = line_of (Ok read); figures = after }) (read_call line old)
+  unfolding read_call
+  accepted_with {read} e r room a =
+      accepts 0 (read_number line (length old)) _ _ _
+      (then_yes _ _ 0 e (rw r.count at room) ∙ sym (number_split line (length old))) refl (rw (a, r.figures, r.start, r.count))

@@ -1,19 +1,19 @@
 -- Laws of line starts. Assumes nothing.
 use mathlib.Core.Path.{◌≡◌, refl, sym, ◌∙◌}
-use mathlib.Core.Logic.{by_cases}
-use mathlib.Core.Bool.{Bool, true, false, false≢true, cond, ◌&&◌}
+use mathlib.Core.Bool.{Bool, true, false, false≢true, cond}
 use mathlib.Core.List.{List, [], ◌∷◌}
-use Prim.Native.Nat.{ℕ, ◌+◌, ◌≤◌, ◌<◌}
-use native.Mathlib.Decide.{dec_lt}
+use Prim.Native.Nat.{ℕ, ◌≤◌, ◌<◌}
 use native.Mathlib.Omega.{arith}
-use borrow.Author.Tests.{eq-eqb, ne_eqb}
+use borrow.Author.Tests.{eq-eqb, ne_eqb, eqb-true, eqb-false}
 use lib.Dec.{eqb}
-use lib.ListN.{length, drop, get_or, drop_of_length-le}
-use Rattle.lists.proofs.Loops.{drop_more}
-use Rattle.lists.proofs.Questions.{and_second, by_case, above, asks}
-use Rattle.lines.specs.Reading.{starts_with, month_start, plant_start, period_start, meter_start, line_start, start_length, count_fits}
+use lib.ListN.{length, take}
+use lib.Pointwise.{pointwise}
+use Rattle.lists.proofs.Questions.{both, by_case, above}
+use Rattle.lines.specs.Reading.{starts_with, month_start, plant_start, period_start, meter_start, line_start, start_length, count_fits, start_number}
+use Rattle.lines.specs.declared.reading.Start.{Start}
+use Rattle.lines.specs.declared.reading.Start.TheVariants.{Month, Plant, Period, Meter}
 
--- ---- a definition by cases, for `search cases`
+-- ---- a definition by cases
 
 pub case_yes : {A : Type 0} (b : Bool) (x y r : A) → b ≡ true → r ≡ x → r ≡ cond b x y
 case_yes b x y r e p = rw e p
@@ -21,44 +21,34 @@ case_yes b x y r e p = rw e p
 pub case_no : {A : Type 0} (b : Bool) (x y r : A) → b ≡ false → r ≡ y → r ≡ cond b x y
 case_no b x y r e p = rw e p
 
-pub ruleset cases = (case_yes, case_no, asks)
+-- ---- std's word for a line that begins with bytes
 
--- ---- a loop that compares
+turned : (b x : ℕ) → eqb b x ≡ eqb x b
+turned b x = by (eqb x b) refl
+  where
+    by : (t : Bool) → eqb x b ≡ t → eqb b x ≡ eqb x b
+    by true e = eq-eqb b x (sym (eqb-true x b e)) ∙ sym e
+    by false e = ne_eqb b x (λ p. eqb-false x b e (sym p)) ∙ sym e
 
--- more bytes than the line has
-pub starts-short : (bytes line : List ℕ) → length line < length bytes → false ≡ starts_with bytes line
+pub begins : (bytes line : List ℕ) → pointwise eqb bytes (take (length bytes) line) ≡ starts_with bytes line
 unfolding starts_with
-starts-short [] line h = absurd (omega arith)
-starts-short (b ∷ bs) [] h = refl
-starts-short (b ∷ bs) (x ∷ line) h = sym (and_second (eqb x b) (starts_with bs line) (sym (starts-short bs line (omega arith))))
-
--- the first i bytes are the same
-pub record Matching (bytes line : List ℕ) (i : ℕ) : Type 0 where
-  pub room : length bytes ≤ length line
-  pub whole : starts_with bytes line ≡ starts_with (drop i bytes) (drop i line)
-
-module _ {bytes line : List ℕ} where
-  module _ {i : ℕ} (m : Matching bytes line i) where
-    step : i < length bytes → starts_with bytes line ≡ (eqb (get_or line i 0) (get_or bytes i 0) && starts_with (drop (i + 1) bytes) (drop (i + 1) line))
-    unfolding starts_with
-    step h =
-        let k : i < length line = omega (arith, m.room) in
-        m.whole ∙ rw (drop_more bytes i 0, drop_more line i 0)
-
-    pub matching_more : i < length bytes → get_or line i 0 ≡ get_or bytes i 0 → Matching bytes line (i + 1)
-    matching_more h e = record { room = m.room; whole = step h ∙ rw (eq-eqb (get_or line i 0) (get_or bytes i 0) e) }
-
-    pub mismatched : i < length bytes → (get_or line i 0 ≡ get_or bytes i 0 → ⊥) → false ≡ starts_with bytes line
-    mismatched h n = sym (step h ∙ rw (ne_eqb (get_or line i 0) (get_or bytes i 0) n))
-
-    pub matched : length bytes ≤ i → true ≡ starts_with bytes line
-    unfolding starts_with
-    matched h = sym (m.whole ∙ rw (drop_of_length-le bytes h))
+begins [] line = refl
+begins (b ∷ bs) [] = refl
+begins (b ∷ bs) (x ∷ line) = rw (turned b x, begins bs line)
 
 -- ---- what a start tells
 
 pub starts-long : (bytes line : List ℕ) → starts_with bytes line ≡ true → length bytes ≤ length line
-starts-long bytes line e = by_cases (dec_lt (length line) (length bytes)) (λ h. absurd (false≢true (starts-short bytes line h ∙ e))) (λ h. omega arith)
+unfolding starts_with
+starts-long [] line e = omega arith
+starts-long (b ∷ bs) [] e = absurd (false≢true e)
+starts-long (b ∷ bs) (x ∷ line) e = omega (arith, starts-long bs line (both (eqb x b) (starts_with bs line) e).1)
+
+pub start_some : (start : Start) → start_number start ≡ 0 → ⊥
+start_some Month e = omega arith
+start_some Plant e = omega arith
+start_some Period e = omega arith
+start_some Meter e = omega arith
 
 -- a line with a start has its bytes
 pub start-room : (line : List ℕ) → (line_start line ≡ 0 → ⊥) → start_length (line_start line) ≤ length line

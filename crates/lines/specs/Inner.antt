@@ -1,8 +1,11 @@
 -- What the contracts of the functions below the calls say. Free: the position where there is no such field. Assumes nothing.
-use Rattle.std.specs.Prelude.{◌≡◌, Bool, cond, List, [], ◌++◌, map, ℕ, ◌≤◌, ◌<◌, length, take, drop}
+use Rattle.std.specs.Prelude.{◌≡◌, List, [], ◌∷◌, map, ℕ, ◌≤◌, ◌<◌, leb, ltb, length, take, drop}
 use Rattle.lists.specs.Lists.{every}
+use Rattle.lists.specs.Questions.{Question, ◌⁇◌}
 use Rattle.figures.specs.Figures.{value, is_figure}
-use Rattle.lines.specs.Fields.{to_comma, fields}
+use Rattle.lines.specs.Fields.{longest, to_comma, fields}
+use Rattle.lines.specs.Reading.{line_start, line_fields, count_fits, start_number}
+use Rattle.lines.specs.declared.reading.ReadLine.{ReadLine}
 
 -- the bytes before the first comma
 unfoldable pub first_field : List ℕ → List ℕ
@@ -13,13 +16,18 @@ pub record Starts (line : List ℕ) (index position : ℕ) : Type 0 where
   pub there : position ≤ length line → drop index (fields line) ≡ fields (drop position line)
   pub absent : length line < position → drop index (fields line) ≡ []
 
--- what is written for a field: its figure, and 0 where it is none
-unfoldable pub worth : List ℕ → ℕ
-worth field = cond (is_figure field) (value field) 0
+-- the questions before that of room
+abbrev pub read_questions : List ℕ → List Question
+read_questions line =
+    leb (length line) longest ⁇ 26
+    ∷ ltb 0 (line_start line) ⁇ 27
+    ∷ count_fits (line_start line) (length (line_fields line)) ⁇ 28
+    ∷ every is_figure (line_fields line) ⁇ 29
+    ∷ []
 
--- fields read to the front of a list: a count above the list's length says that it has no room for them
-pub record ReadTo (fs : List (List ℕ)) (old new : List ℕ) (count : ℕ) (good : Bool) : Type 0 where
-  pub many : length old < length fs → length old < count
-  pub counted : length fs ≤ length old → count ≡ length fs
-  pub tested : length fs ≤ length old → good ≡ every is_figure fs
-  pub written : length fs ≤ length old → new ≡ map worth fs ++ drop (length fs) old
+-- a line read: its start, and its figures at the front of a list
+pub record ReadTo (line : List ℕ) (read : ReadLine) (list : List ℕ) : Type 0 where
+  pub start : start_number read.start ≡ line_start line
+  pub count : read.fields ≡ length (line_fields line)
+  pub few : read.fields ≤ 513
+  pub figures : take read.fields list ≡ map value (line_fields line)

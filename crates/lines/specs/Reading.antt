@@ -1,10 +1,15 @@
 -- Reading a line, its end byte 10 removed: document 01, 'Reading a line'. Assumes nothing.
-use Rattle.std.specs.Prelude.{ℕ, Bool, true, false, cond, ◌&&◌, List, [], ◌∷◌, ◌++◌, map, eqb, leb, ltb, length, drop}
+use Rattle.std.specs.Prelude.{ℕ, Option, Some, None, Result, Ok, Err, Bool, true, false, cond, ◌&&◌, List, [], ◌∷◌, ◌++◌, map, eqb, leb, ltb, length, drop}
 use Rattle.lists.specs.Lists.{every}
 use Rattle.lists.specs.Questions.{◌⁇◌, first_no, in_range, outcome}
 use Rattle.figures.specs.Figures.{value, is_figure}
 use Rattle.lines.specs.Fields.{longest, fields}
+use Rattle.refusals.specs.declared.Refusal.{Refusal}
+use Rattle.refusals.specs.Numbers.{refusal_number}
 use Rattle.lines.specs.declared.reading.Line.{Line}
+use Rattle.lines.specs.declared.reading.ReadLine.{ReadLine}
+use Rattle.lines.specs.declared.reading.Start.{Start}
+use Rattle.lines.specs.declared.reading.Start.TheVariants.{Month, Plant, Period, Meter}
 
 -- does the line begin with these bytes?
 unfoldable pub starts_with : List ℕ → List ℕ → Bool
@@ -50,6 +55,17 @@ count_fits start count =
     (cond (eqb start 3) (eqb count 2)
     (in_range 2 513 count)))
 
+-- the number of a start, and of the start that was found
+abbrev pub start_number : Start → ℕ
+start_number Month = 1
+start_number Plant = 2
+start_number Period = 3
+start_number Meter = 4
+
+abbrev pub found : Option Start → ℕ
+found None = 0
+found (Some start) = start_number start
+
 -- the questions, with as many places in the figure list
 unfoldable pub read_number : List ℕ → ℕ → ℕ
 read_number line places =
@@ -69,6 +85,11 @@ pub record ReadEnd : Type 0 where
 -- refused: the number, and zeros in the other parts of the answer
 abbrev pub refusal : ℕ → Line
 refusal n = record { number = n; start = 0; fields = 0 }
+
+-- an answer as C gets it
+abbrev pub line_of : Result ReadLine Refusal → Line
+line_of (Ok read) = record { number = 0; start = start_number read.start; fields = read.fields }
+line_of (Err r) = refusal (refusal_number r)
 
 -- accepted, the figures stand at the front of the list and the rest of it stays; refused, nothing is written
 unfoldable pub read_call : List ℕ → List ℕ → ReadEnd

@@ -16,11 +16,11 @@
 use mathlib.Core.Path.{◌≡◌, refl, sym, ap, ◌∙◌}
 use mathlib.Core.Bool.{Bool, true, false, ◌&&◌}
 use mathlib.Core.List.{List, [], ◌∷◌, ◌++◌, append_assoc}
-use Prim.Native.Nat.{ℕ, zero, suc, ◌+◌, ◌-◌, ◌^◌, ◌≤◌, ◌<◌, zero-le}
+use Prim.Native.Nat.{ℕ, suc, ◌+◌, ◌-◌, ◌^◌, ◌≤◌, ◌<◌, zero-le}
 use native.Mathlib.Nat.{le_antisymm, sub-zero, add-zero, zero-add}
 use native.Mathlib.Numerals.{add-one}
 use native.Mathlib.Omega.{arith}
-use lib.ListN.{length, drop, get_or, set, replicate, length-set, drop_of_length-le, take-append-drop}
+use lib.ListN.{length, drop, get_or, set, length-set, drop_of_length-le, take-append-drop}
 use lib.Seq.{drop-cons, take-suc-set, drop-set-lt, drop-drop, get_or-drop}
 use borrow.Author.Rules.{rules}
 use lib.Dec.{leb}
@@ -184,14 +184,6 @@ module _ {n : ℕ} {l : List ℕ} where
   pub limited : {i : ℕ} → Limiting n l i → length l ≤ i → true ≡ at_most n l
   unfolding at_most
   limited {i} k h = passed k.now (drop_of_length-le l h)
-
--- A table of one value.
-pub table_constant {ℓ} : {A : Type ℓ} (n : ℕ) (v : A) → table n (λ _. v) ≡ replicate n v
-table_constant n v = go n 0
-  where
-    go : (n i : ℕ) → table_from (λ _. v) i n ≡ replicate n v
-    go zero i = refl
-    go (suc n) i = ap (λ l. v ∷ l) (go n (i + 1))
 
 -- For `search loops` at the needs of a loop.
 pub ruleset loops = (filling, tabling, tabling_more, tabled, updating, updating_more, adding, adding_next, adding_fits, added, drop_of_length-le, limiting, limiting_more, exceeded, limited, rules)

@@ -6,8 +6,9 @@ use mathlib.Core.List.{List, [], ◌∷◌}
 use mathlib.Core.Path.{◌≡◌, refl, sym, ap, ◌∙◌, subst}
 use native.Mathlib.Omega.{arith}
 use borrow.Author.Tests.{leb-true, not-true, not-false, le-leb, lt-leb, lt-ltb, le-ltb, eq-eqb, ne_eqb}
-use lib.Dec.{T, eqb, ltb, leb}
+use lib.Dec.{T, ltb, leb}
 use lib.ListN.{length, get_or}
+use Rattle.std.specs.List.{list_all}
 use Rattle.lists.specs.Lists.{sum, most, every, at_most}
 use Rattle.lists.proofs.Bounds.{hours-small}
 use Rattle.lists.specs.Questions.{◌then◌, Question, ◌⁇◌, part, first_no, in_range, outcome}
@@ -21,10 +22,6 @@ unfolding ◌then◌
 then_no k zero m e h = absurd (h e)
 then_no k (suc n) m e h = e
 
-pub yes : (b : Bool) (n : ℕ) (qs : List Question) (r : ℕ) → b ≡ true → r ≡ first_no qs → r ≡ first_no (b ⁇ n ∷ qs)
-unfolding first_no
-yes b n qs r e p = rw e p
-
 pub no : (b : Bool) (n : ℕ) (qs : List Question) → b ≡ false → n ≡ first_no (b ⁇ n ∷ qs)
 unfolding first_no
 no b n qs e = rw e
@@ -33,18 +30,10 @@ pub part-yes : (n : ℕ) (qs : List Question) (x r : ℕ) → x ≡ n → x ≡ 
 unfolding first_no
 part-yes n qs x r e z p = then_yes n (first_no qs) r (sym z ∙ e) p
 
-pub part_no : (n : ℕ) (qs : List Question) (x : ℕ) → x ≡ n → (x ≡ 0 → ⊥) → x ≡ first_no (part n ∷ qs)
-unfolding first_no
-part_no n qs x e h = then_no x n (first_no qs) e h
-
 pub part-last : (n x : ℕ) → x ≡ n → x ≡ first_no (part n ∷ [])
 unfolding first_no ◌then◌
 part-last zero x e = e
 part-last (suc n) x e = e
-
-pub all_yes : 0 ≡ first_no []
-unfolding first_no
-all_yes = refl
 
 -- a list that gave 0: its first question was answered yes, or its first part gave 0, and so with the rest
 pub asked : (b : Bool) (n : ℕ) (qs : List Question) → T (ltb 0 n) → first_no (b ⁇ n ∷ qs) ≡ 0 → (b ≡ true) × (first_no qs ≡ 0)
@@ -83,14 +72,6 @@ called_no x y e t = sym e ∙ t
 pub called_yes : (x y : Bool) → x ≡ y → x ≡ true → y ≡ true
 called_yes x y e t = sym e ∙ t
 
--- a call that answers a number, compared with 0
-pub none : (x y : ℕ) → x ≡ y → x ≡ 0 → ltb 0 y ≡ false
-none x y e z = rw (← e, z)
-
-pub some : (x y : ℕ) → x ≡ y → (x ≡ 0 → ⊥) → ltb 0 y ≡ true
-some x zero e h = absurd (h e)
-some x (suc y) e h = lt-ltb 0 (suc y) (omega arith)
-
 -- tests joined by `&&` and `||`, from left to right
 pub and_go : (a b r : Bool) → a ≡ true → r ≡ b → r ≡ (a && b)
 and_go a b r e p = rw e p
@@ -118,16 +99,9 @@ not-no a e = rw e
 pub and_both : (a b : Bool) → a ≡ true → b ≡ true → (a && b) ≡ true
 and_both a b e p = rw (e, p)
 
-pub and_first : (a b : Bool) → a ≡ false → (a && b) ≡ false
-and_first a b e = rw e
-
 pub and_second : (a b : Bool) → b ≡ false → (a && b) ≡ false
 and_second true b e = e
 and_second false b e = refl
-
-pub below : (low high x : ℕ) → x < low → in_range low high x ≡ false
-unfolding in_range
-below low high x h = rw (lt-leb low x h)
 
 pub above : (low high x : ℕ) → high < x → in_range low high x ≡ false
 unfolding in_range
@@ -140,13 +114,6 @@ in_range_lem low high x h k = rw (le-leb low x h, le-leb x high k)
 pub limits : (low high x : ℕ) → in_range low high x ≡ true → (low ≤ x) × (x ≤ high)
 unfolding in_range
 limits low high x e = let l = both (leb low x) (leb x high) e in (leb-true low x l.0, leb-true x high l.1)
-
--- the number of a call, told by another equation
-pub eq_of : (x y z : ℕ) → x ≡ y → x ≡ z → eqb y z ≡ true
-eq_of x y z p q = eq-eqb y z (sym p ∙ q)
-
-pub ne_of : (x y z : ℕ) → x ≡ y → (x ≡ z → ⊥) → eqb y z ≡ false
-ne_of x y z p h = ne_eqb y z (λ e. h (p ∙ e))
 
 -- ---- what a call leaves, by its number
 module _ {ℓ} {A : Type ℓ} where
@@ -181,6 +148,16 @@ outcome-part g zero y f = refl
 outcome-part g (suc n) y f = refl
 
 -- ---- every figure
+-- std's word, by which `all` of a chain answers
+pub every_is_list_all : {A : Type 0} (p : A → Bool) (xs : List A) → every p xs ≡ list_all p xs
+unfolding every
+every_is_list_all p [] = refl
+every_is_list_all p (x ∷ xs) = ap (λ b. p x && b) (every_is_list_all p xs)
+
+pub all_at_most : (n : ℕ) (xs : List ℕ) → list_all (λ x. leb x n) xs ≡ at_most n xs
+unfolding at_most
+all_at_most n xs = sym (every_is_list_all (λ x. leb x n) xs)
+
 pub every_all : {A : Type 0} (p : A → Bool) (xs : List A) (d : A) → ((i : ℕ) → p (get_or xs i d) ≡ true) → every p xs ≡ true
 unfolding every
 every_all p [] d h = refl
@@ -204,8 +181,4 @@ at-most-at xs n e i = leb-true _ n (every-at (λ x. leb x n) xs 0 (le-leb 0 n (o
 pub sum-hours : (xs : List ℕ) → length xs ≤ 744 → at_most most xs ≡ true → sum xs < 2 ^ 43
 sum-hours xs l e = hours-small xs l (record { at = at-most-at xs most e })
 
-pub ruleset asks = (no, yes, part_no, part-yes, part-last, all_yes, le-leb, lt-leb, lt-ltb, le-ltb, eq-eqb, ne_eqb, refused, granted, called_no, called_yes, none, some, eq_of, ne_of, below, above, in_range_lem, not_yes, not-no, and_both, and_first, and_second, refl)
-
 pub ruleset tests = (and_go, and_stop, and_stopped, or_go, or_stop, not_yes, not-no, le-leb, lt-leb, lt-ltb, le-ltb, eq-eqb, ne_eqb, called_no, called_yes, refl)
-
-pub ruleset outcomes = (refuses, accepts)

@@ -1,6 +1,5 @@
 // A ratio of at most 1 by which many figures are multiplied: its first binary digits are worked out once, and a product then needs no division.
-ghost use Rattle.std.specs.Prelude.{◌≡◌, ◌*◌, ◌/◌, ◌^◌, ◌≤◌, ◌<◌};
-ghost use Rattle.modulation.specs.Ratio.{Prepared};
+ghost use Rattle.std.specs.Prelude.{◌≡◌, ◌*◌, ◌/◌, ◌%◌, ◌^◌, ◌≤◌, ◌<◌};
 
 // part / whole, with its first 20 binary digits, the 42 digits after them, and the first 42.
 #[derive(Clone, Copy)]
@@ -10,33 +9,41 @@ pub struct Ratio {
     pub high: u64,
     pub low: u64,
     pub middle: u64,
+    ghost at_most_one: { part ≤ whole },
+    ghost some: { 0 < whole },
+    ghost small: { whole < 2 ^ 43 },
+    ghost first: { high ≡ part * 2 ^ 20 / whole },
+    ghost next: { low ≡ 2 ^ 42 * (part * 2 ^ 20 % whole) / whole },
+    ghost both: { middle ≡ 2 ^ 42 * part / whole },
 }
 
-pub fn ratio_of(part: u64, whole: u64) -> Ratio
-    requires { (part ≤ whole) × (0 < whole) × (whole < 2 ^ 43) }
-    ensures { Prepared result × (result.part ≡ part) × (result.whole ≡ whole) }
-{
-    let shifted = part * 1048576;
-    let rest = shifted % whole;
-    Ratio {
-        part,
-        whole,
-        high: shifted / whole,
-        low: wide::mul_div(4398046511104, rest, whole),
-        middle: wide::mul_div(4398046511104, part, whole),
+impl Ratio {
+    pub fn new(part: u64, whole: u64) -> Self
+        requires { (part ≤ whole) × (0 < whole) × (whole < 2 ^ 43) }
+        ensures { (result.part ≡ part) × (result.whole ≡ whole) }
+    {
+        let shifted = part * 1048576;
+        let rest = shifted % whole;
+        Ratio {
+            part,
+            whole,
+            high: shifted / whole,
+            low: wide::mul_div(4398046511104, rest, whole),
+            middle: wide::mul_div(4398046511104, part, whole),
+        }
     }
-}
 
-// t times the ratio, rounded down. The digits settle it unless the product comes within 2^-21 of the next whole number.
-pub fn times(t: u64, r: Ratio) -> u64
-    requires { Prepared r × (t < 2 ^ 40) }
-    ensures { result ≡ t * r.part / r.whole }
-{
-    let upper = t / 1048576;
-    let lower = t % 1048576;
-    let behind = upper * r.low + lower * r.middle;
-    if behind % 4398046511104 + upper + lower < 4398046511104 {
-        return upper * r.high + behind / 4398046511104;
+    // The ratio times t, rounded down. The digits settle it unless the product comes within 2^-21 of the next whole number.
+    pub fn times(self, t: u64) -> u64
+        requires { t < 2 ^ 40 }
+        ensures { result ≡ t * self.part / self.whole }
+    {
+        let upper = t / 1048576;
+        let lower = t % 1048576;
+        let behind = upper * self.low + lower * self.middle;
+        if behind % 4398046511104 + upper + lower < 4398046511104 {
+            return upper * self.high + behind / 4398046511104;
+        }
+        wide::mul_div(t, self.part, self.whole)
     }
-    wide::mul_div(t, r.part, r.whole)
 }

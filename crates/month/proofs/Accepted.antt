@@ -5,7 +5,7 @@ use Prim.Native.Nat.{ℕ}
 use mathlib.Core.List.{List, [], ◌∷◌, map}
 use Rattle.lists.proofs.Questions.{asked, number_itself, outcome-part}
 use Rattle.blocks.specs.Portion.{Standing}
-use Rattle.hour.specs.declared.Plant.{Plant}
+use Rattle.plants.specs.declared.Plant.{Plant}
 use Rattle.hour.specs.Hour.{hour_of}
 use Rattle.hour.proofs.Hour.{Sound}
 use Rattle.hour.proofs.Limits.{sound_of}
@@ -13,8 +13,7 @@ use Rattle.ledger.specs.Ledger.{Ledger}
 use Rattle.month.specs.declared.Month.{Month}
 use Rattle.questions.specs.Questions.{rows_number}
 use Rattle.questions.proofs.Asked.{first-row}
-use Rattle.month.specs.declared.Balanced.{Balanced}
-use Rattle.month.specs.declared.Ended.{Ended}
+use Rattle.month.specs.Answers.{Balanced, Ended}
 use Rattle.month.specs.Questions.{is_open, open_number, settle_number, close_number, balance_number}
 use Rattle.month.proofs.Asked.{Inputs, settled}
 use Rattle.month.specs.Calls.{OpenEnd, open_call, SettleEnd, settle_call, balance_call, close_call}

@@ -1,5 +1,5 @@
 -- What follows where questions are answered yes: from number 0 to a record of facts. Assumes nothing.
-use mathlib.Core.Path.{◌≡◌, refl, sym, ◌∙◌}
+use mathlib.Core.Path.{◌≡◌, refl}
 use mathlib.Core.Bool.{true, not}
 use mathlib.Core.List.{List, []}
 use Prim.Native.Nat.{ℕ, ◌*◌, ◌^◌, ◌≤◌}
@@ -8,7 +8,7 @@ use lib.ListN.{length}
 use Rattle.lists.specs.Lists.{sum, at_most}
 use Rattle.lists.specs.Columns.{at}
 use Rattle.lists.proofs.Questions.{asked, parted, both, limits}
-use Rattle.hour.specs.declared.Plant.{Plant}
+use Rattle.plants.specs.declared.Plant.{Plant}
 use Rattle.hour.specs.Hour.{hour_of}
 use Rattle.ledger.specs.Ledger.{Ledger, in_bounds}
 use Rattle.questions.proofs.Asked.{Sizes, sizes, Lengths, ledger, Tables, tables}
@@ -32,10 +32,10 @@ pub record Own (m : Month) (p h : ℕ) : Type 0 where
   pub rows : p ≡ m.plants
   pub figures : h ≡ m.periods
 
-pub own : (m : Month) (p h k : ℕ) → k ≡ own_number m p h → k ≡ 0 → Own m p h
+pub own : (m : Month) (p h : ℕ) → own_number m p h ≡ 0 → Own m p h
 unfolding own_number
-own m p h k e z =
-    let q₁₂ = asked _ _ _ tt (sym e ∙ z) in
+own m p h e =
+    let q₁₂ = asked _ _ _ tt e in
     let q₂ = parted _ _ q₁₂.1 in
     let q₁₃ = both _ _ (asked _ _ [] tt q₂.1).0 in
     record { is_opened = q₁₂.0; sizes = sizes _ _ _ _ refl q₂.0; rows = eqb-true _ _ q₁₃.0; figures = eqb-true _ _ q₁₃.1 }
@@ -73,19 +73,18 @@ pub record Inputs (m : Month) (plants : List Plant) (profile metered : List ℕ)
   pub tables : Tables m.plants plants profile l
   pub meter : Metered m profile metered lent
 
-pub inputs : (m : Month) (plants : List Plant) (profile metered : List ℕ) (lent : ℕ) (l : Ledger) (k : ℕ)
-    → k ≡ inputs_number m plants profile metered lent l → k ≡ 0 → Inputs m plants profile metered lent l
+pub inputs : (m : Month) (plants : List Plant) (profile metered : List ℕ) (lent : ℕ) (l : Ledger) → inputs_number m plants profile metered lent l ≡ 0 → Inputs m plants profile metered lent l
 unfolding inputs_number
-inputs m plants profile ms lent l k e z =
-    let q₁₂ = parted _ _ (sym e ∙ z) in
+inputs m plants profile ms lent l e =
+    let q₁₂ = parted _ _ e in
     let q₅ = parted _ _ q₁₂.1 in
     let q₁₄ = parted _ [] q₅.1 in
-    record { own = own _ _ _ _ refl q₁₂.0; tables = tables _ _ _ _ q₅.0; meter = metered _ _ _ _ q₁₄.0 }
+    record { own = own _ _ _ q₁₂.0; tables = tables _ _ _ _ q₅.0; meter = metered _ _ _ _ q₁₄.0 }
 
 -- ... 19
-pub bounds : (before after : Ledger) (k : ℕ) → k ≡ bounds_number before after → k ≡ 0 → (in_bounds before ≡ true) × (in_bounds after ≡ true)
+pub bounds : (before after : Ledger) → bounds_number before after ≡ 0 → (in_bounds before ≡ true) × (in_bounds after ≡ true)
 unfolding bounds_number
-bounds before after k e z = both _ _ (asked _ _ [] tt (sym e ∙ z)).0
+bounds before after e = both _ _ (asked _ _ [] tt e).0
 
 -- ... all of them
 pub settled : (m : Month) (plants : List Plant) (profile metered lent : List ℕ) (l : Ledger) → settle_number m plants profile metered lent l ≡ 0
@@ -93,7 +92,7 @@ pub settled : (m : Month) (plants : List Plant) (profile metered lent : List ℕ
 unfolding settle_number
 settled m plants profile ms lent l e =
     let q = parted _ _ e in
-    (inputs m plants profile ms (length lent) l _ refl q.0, bounds _ _ _ refl (parted _ [] q.1).0)
+    (inputs m plants profile ms (length lent) l q.0, bounds _ _ (parted _ [] q.1).0)
 
 -- balance: 21, 2, 11 and 19
 pub record Balance (m : Month) (l : Ledger) : Type 0 where
@@ -102,10 +101,10 @@ pub record Balance (m : Month) (l : Ledger) : Type 0 where
   pub lengths : Lengths m.plants l
   pub inside : in_bounds l ≡ true
 
-pub balance : (m : Month) (l : Ledger) (k : ℕ) → k ≡ balance_number m l → k ≡ 0 → Balance m l
+pub balance : (m : Month) (l : Ledger) → balance_number m l ≡ 0 → Balance m l
 unfolding balance_number
-balance m l k e z =
-    let q₂₁ = asked _ _ _ tt (sym e ∙ z) in
+balance m l e =
+    let q₂₁ = asked _ _ _ tt e in
     let q₂ = asked _ _ _ tt q₂₁.1 in
     let q₁₁ = ledger _ _ (parted _ [] q₂.1).0 in
     record { not_blank = q₂₁.0; plants = (limits _ _ _ q₂.0).1; lengths = q₁₁.0; inside = q₁₁.1 }

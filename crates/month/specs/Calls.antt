@@ -5,14 +5,12 @@ use Rattle.lists.specs.Lists.{sum, sumℤ}
 use Rattle.lists.specs.Columns.{four}
 use Rattle.lists.specs.Questions.{outcome}
 use Rattle.transfer.specs.Calls.{no_table}
-use Rattle.hour.specs.declared.Plant.{Plant}
+use Rattle.plants.specs.declared.Plant.{Plant}
 use Rattle.hour.specs.Hour.{hour_of, guarantees, secondary, cover_table, secondary_table, allotment}
 use Rattle.ledger.specs.Ledger.{Ledger, zeros, allotted_in, net_column, money_column}
 use Rattle.month.specs.declared.Month.{Month}
-use Rattle.month.specs.declared.Settled.{Settled}
-use Rattle.month.specs.declared.Balanced.{Balanced}
-use Rattle.month.specs.declared.Ended.{Ended}
 use Rattle.month.specs.declared.Stage.TheVariants.{Blank, Open, Closed}
+use Rattle.month.specs.Answers.{Ended, Settled, Balanced}
 use Rattle.month.specs.Questions.{open_number, settle_number, close_number, balance_number, posted}
 
 -- a month that no open has begun

@@ -1,5 +1,5 @@
 -- Document 01, 'Calls', 'The questions' and the statement call, as definitions.
 pub mod Questions
+pub mod Answers
 pub mod Calls
-pub mod Steps
 pub mod Statement

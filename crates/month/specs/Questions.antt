@@ -3,7 +3,7 @@ use Rattle.std.specs.Prelude.{ℕ, ◌+◌, ◌*◌, Bool, true, false, not, ◌
 use Rattle.lists.specs.Lists.{sum, most, at_most}
 use Rattle.lists.specs.Columns.{at}
 use Rattle.lists.specs.Questions.{◌⁇◌, part, first_no, in_range}
-use Rattle.hour.specs.declared.Plant.{Plant}
+use Rattle.plants.specs.declared.Plant.{Plant}
 use Rattle.hour.specs.Hour.{Hour, hour_of, allotment, nets}
 use Rattle.ledger.specs.Ledger.{Ledger, in_bounds, added}
 use Rattle.ledger.specs.Posting.{hour_figures}

@@ -2,12 +2,11 @@
 -- leaves. Assumes nothing.
 use Rattle.std.specs.Prelude.{◌≡◌, not, List, [], ◌∷◌, ◌++◌, ℕ, ◌+◌, ◌-◌, ◌≤◌, leb, eqb, length, drop}
 use Rattle.lists.specs.Questions.{◌⁇◌, part, first_no, in_range, outcome}
-use Rattle.hour.specs.declared.Plant.{Plant}
+use Rattle.plants.specs.declared.Plant.{Plant}
 use Rattle.ledger.specs.Ledger.{Ledger}
 use Rattle.statement.specs.Statement.{statement_text, room_for}
 use Rattle.month.specs.declared.Month.{Month}
-use Rattle.month.specs.declared.Stated.{Stated}
-use Rattle.month.specs.declared.Sized.{Sized}
+use Rattle.month.specs.Answers.{Stated, Sized}
 use Rattle.questions.specs.Questions.{plants_in_limits, periods_in_limits, rows_number, ledger_number}
 use Rattle.month.specs.Questions.{is_blank}
 

@@ -1,58 +1,32 @@
 // Close (document 01, 'Calls').
 ghost use Rattle.std.specs.Prelude.{◌≡◌};
+ghost use Rattle.refusals.specs.Numbers.{number};
 ghost use Rattle.month.specs.Questions.{close_number};
-ghost use Rattle.month.specs.Calls.{closed_month, close_call};
+ghost use Rattle.month.specs.Answers.{ended};
+ghost use Rattle.month.specs.Calls.{close_call};
 
-use crate::stages::is_open;
-use crate::{Ended, Month, Stage};
+use crate::{Month, Stage};
 use questions::periods_in_limits;
-
-// 12, 3 for the month's own H, and 20.
-pub fn close_number(month: Month) -> u64
-    ensures { result ≡ close_number month }
-{
-    let stage = month.stage;
-    if !is_open(stage) {
-        return 12;
-    }
-    if !periods_in_limits(month.periods) {
-        return 3;
-    }
-    if month.due != month.periods + 1 {
-        return 20;
-    }
-    0
-}
+use refusals::{Refusal, ask};
 
 impl Month {
-    // The month, closed.
-    fn closed(self) -> Month
-        ensures { result ≡ closed_month self }
+    // 12, 3 for the month's own H, and 20.
+    #[tactic(auto, unfolding(crate::specs::Questions::close_number, crate::specs::Questions::is_open, lists::specs::Questions::first_no, lists::specs::Questions::in_range))]
+    pub fn ask_close(&self) -> Result<(), Refusal>
+        ensures { number result ≡ close_number self.now }
     {
-        Month {
-            stage: Stage::Closed,
-            plants: self.plants,
-            periods: self.periods,
-            tariff: self.tariff,
-            due: self.due,
-        }
+        ask(self.stage == Stage::Open, Refusal::NotOpen)?;
+        ask(periods_in_limits(self.periods), Refusal::PeriodCount)?;
+        ask(self.due == self.periods + 1, Refusal::PeriodsLeft)
     }
 
     // Close ends the month.
-    pub fn close(mut self) -> Ended
-        ensures { result ≡ close_call self }
+    #[tactic(auto, using(crate::proofs::Outcomes::calls), unfolding(crate::specs::Calls::close_call))]
+    pub fn close(&mut self) -> Result<(), Refusal>
+        ensures { ended result self.new ≡ close_call self.old }
     {
-        let number = close_number(self);
-        if number != 0 {
-            return Ended {
-                number,
-                month: self,
-            };
-        }
-        self = self.closed();
-        Ended {
-            number: 0,
-            month: self,
-        }
+        self.ask_close()?;
+        self.stage = Stage::Closed;
+        Ok(())
     }
 }

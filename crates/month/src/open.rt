@@ -1,104 +1,55 @@
 // Open (document 01, 'Calls').
-ghost use Rattle.std.specs.Prelude.{◌≡◌, ◌≤◌, length, List};
-ghost use Rattle.hour.specs.declared.Plant.{Plant};
-ghost use Rattle.records.specs.Records.{rows_of, Held, table_places};
+ghost use Rattle.std.specs.Prelude.{◌≡◌};
+ghost use Rattle.refusals.specs.Numbers.{number};
 ghost use Rattle.month.specs.Questions.{open_number};
+ghost use Rattle.month.specs.Answers.{ended};
 ghost use Rattle.month.specs.Calls.{OpenEnd, open_call};
 
-use crate::stages::is_open;
-use crate::{Ended, Month, Stage};
-use hour::Plant;
-use questions::{sizes_number, tables_number};
-use records::COLUMNS;
-
-// 1, then 2 to 4 of what is lent, then 5 to 11. More than 512 rows are refused unread, here and in every form on columns.
-pub fn open_number(
-    month: Month,
-    n: usize,
-    columns: &[u64],
-    profile: &[u64],
-    tariff: u64,
-    allotted: &[u64],
-    accounts: &[i64],
-) -> u64
-    requires { table_places ≤ length columns.now }
-    ensures { result ≡ open_number month (rows_of n columns.now) profile.now tariff (record { allotted = allotted.now; accounts = accounts.now }) }
-{
-    let stage = month.stage;
-    if is_open(stage) {
-        return 1;
-    }
-    let no = sizes_number(n as u64, profile.len() as u64, tariff);
-    if no != 0 {
-        return no;
-    }
-    tables_number(n as u64, n, columns, profile, allotted, accounts)
-}
+use crate::{Month, Stage};
+use plants::Plant;
+use questions::{ask_sizes, ask_tables};
+use refusals::{Refusal, ask};
 
 impl Month {
-    // Open sets the ledger to zeros and period 1 due. The plant table comes as the columns of n rows.
-    pub fn open_columns(
-        mut self,
-        n: usize,
-        columns: &[u64],
+    // 1, then 2 to 4 of what is lent, then 5 to 11. More than 512 rows are refused unread.
+    #[tactic(auto, using(refusals::proofs::Asking::asking, questions::proofs::Last::last), unfolding(crate::specs::Questions::open_number, crate::specs::Questions::is_open, lists::specs::Questions::first_no))]
+    pub fn ask_open(
+        &self,
+        plants: &[Plant],
         profile: &[u64],
         tariff: u64,
-        allotted: &mut [u64],
-        accounts: &mut [i64],
-    ) -> Ended
-        requires { table_places ≤ length columns.now }
-        ensures { ◌≡◌ {A = OpenEnd} (record { answer = result; ledger = record { allotted = allotted.new; accounts = accounts.new } }) (open_call self (rows_of n columns.now) profile.now tariff (record { allotted = allotted.old; accounts = accounts.old })) }
+        allotted: &[u64],
+        accounts: &[i64],
+    ) -> Result<(), Refusal>
+        ensures { number result ≡ open_number self.now plants.now profile.now tariff (record { allotted = allotted.now; accounts = accounts.now }) }
     {
-        let no = open_number(self, n, columns, profile, tariff, allotted, accounts);
-        if no != 0 {
-            return Ended {
-                number: no,
-                month: self,
-            };
-        }
-        ledger::zero_figures(allotted);
-        ledger::zero_accounts(accounts);
-        self = Month {
-            stage: Stage::Open,
-            plants: n as u64,
-            periods: profile.len() as u64,
-            tariff,
-            due: 1,
-        };
-        Ended {
-            number: 0,
-            month: self,
-        }
+        ask(self.stage != Stage::Open, Refusal::AlreadyOpen)?;
+        ask_sizes(plants.len() as u64, profile.len() as u64, tariff)?;
+        ask_tables(plants.len() as u64, plants, profile, allotted, accounts)
     }
 
-    // Open on the columns of n records.
-    pub fn open_table(
-        self,
-        n: usize,
-        c: [u64; COLUMNS],
-        profile: &[u64],
-        tariff: u64,
-        allotted: &mut [u64],
-        accounts: &mut [i64],
-    ) -> Ended
-        ensures { (plants : List Plant) → Held plants n c → ◌≡◌ {A = OpenEnd} (record { answer = result; ledger = record { allotted = allotted.new; accounts = accounts.new } }) (open_call self plants profile.now tariff (record { allotted = allotted.old; accounts = accounts.old })) }
-    {
-        self.open_columns(n, &c[..], profile, tariff, allotted, accounts)
-    }
-
-    // Open sets the ledger to zeros and period 1 due. The plant table is one lent list of records.
+    // Open sets the ledger to zeros and period 1 due.
+    #[tactic(auto, using(crate::proofs::Outcomes::calls), unfolding(crate::specs::Calls::open_call))]
     pub fn open(
-        mut self,
+        &mut self,
         plants: &[Plant],
         profile: &[u64],
         tariff: u64,
         allotted: &mut [u64],
         accounts: &mut [i64],
-    ) -> Ended
-        ensures { ◌≡◌ {A = OpenEnd} (record { answer = result; ledger = record { allotted = allotted.new; accounts = accounts.new } }) (open_call self plants.now profile.now tariff (record { allotted = allotted.old; accounts = accounts.old })) }
+    ) -> Result<(), Refusal>
+        ensures { ◌≡◌ {A = OpenEnd} (record { answer = ended result self.new; ledger = record { allotted = allotted.new; accounts = accounts.new } }) (open_call self.old plants.now profile.now tariff (record { allotted = allotted.old; accounts = accounts.old })) }
     {
-        let n = plants.len();
-        let c = records::columns(plants);
-        self.open_table(n, c, profile, tariff, allotted, accounts)
+        self.ask_open(plants, profile, tariff, allotted, accounts)?;
+        allotted.fill(0);
+        accounts.fill(0);
+        *self = Month {
+            stage: Stage::Open,
+            plants: plants.len() as u64,
+            periods: profile.len() as u64,
+            tariff,
+            due: 1,
+        };
+        Ok(())
     }
 }

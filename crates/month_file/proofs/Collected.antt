@@ -1,13 +1,17 @@
 -- Laws of bytes that are collected to a line. Assumes nothing.
 use mathlib.Core.Path.{◌≡◌, refl, sym, ap, ◌∙◌}
-use mathlib.Core.Bool.{false}
-use mathlib.Core.List.{List, [], ◌∷◌, ◌++◌}
-use Prim.Native.Nat.{ℕ, ◌+◌, ◌-◌, ◌≤◌, ◌<◌}
-use native.Mathlib.Numerals.{add-one}
+use mathlib.Core.Logic.{by_cases}
+use mathlib.Core.Bool.{Bool, true, false, not}
+use mathlib.Core.List.{List, [], ◌∷◌, ◌++◌, append_assoc, append-nil}
+use Prim.Native.Nat.{ℕ, suc, ◌+◌, ◌-◌, ◌≤◌, ◌<◌, min}
 use native.Mathlib.Omega.{arith}
-use borrow.Author.Tests.{ne_eqb, lt-ltb}
-use lib.ListN.{length, take, drop, set, get_or, length-set}
-use lib.Seq.{take-suc-set, length-take-le}
+use native.Mathlib.Decide.{dec_lt}
+use borrow.Author.Tests.{ne_eqb, lt-ltb, ltb-false, eqb-true, eqb-false}
+use lib.ListN.{length, take, drop, get_or, length-drop, length-append, take-append-drop}
+use lib.Seq.{length-take-le, get_or-take, get_or-drop, drop-drop, take_at}
+use Rattle.std.specs.Prelude.{◌==◌, nat_lt, position, unwrap_or}
+use Rattle.std.specs.List.{position_or_len}
+use Rattle.std.proofs.lemmas.List.Sums.{fails_before_first, passes_at_first, prefix_len-le-length}
 use Rattle.lists.proofs.Loops.{rest_more}
 use Rattle.file_lines.specs.File.{Progress}
 use Rattle.file_lines.specs.State.{is_refused}
@@ -23,54 +27,73 @@ unfolding fed
 fed-at part at r h e = rest_more (fed r) part at 0 h ∙ ap (λ (q : Reading). fed q (drop (at + 1) part)) e
 
 -- a byte that goes to the line
-pub byte_more : (line : List ℕ) (count : ℕ) (p : Progress) (b : ℕ) → is_refused p ≡ false → (b ≡ 10 → ⊥) → length line < 8192
+byte_more : (line : List ℕ) (count : ℕ) (p : Progress) (b : ℕ) → is_refused p ≡ false → (b ≡ 10 → ⊥) → length line < 8192
     → byte (reading line count p) b ≡ reading (line ++ (b ∷ [])) count p
 unfolding byte longer
 byte_more line count p b e h l = rw (e, ne_eqb b 10 h, lt-ltb (length line) 8192 l)
 
--- a loop that takes bytes from a part, from `from` on, to a line that had `at`
-pub record Collecting (part : List ℕ) (from : ℕ) (old : List ℕ) (at : ℕ) (i n : ℕ) (new : List ℕ) : Type 0 where
-  pub low : from ≤ i
-  pub high : i ≤ length part
-  pub many : n ≡ at + (i - from)
-  pub short : n ≤ 8192
-  pub room : 8192 ≤ length old
-  pub same : length new ≡ length old
-  pub whole : (count : ℕ) (p : Progress) → is_refused p ≡ false
-      → fed (reading (take at old) count p) (drop from part) ≡ fed (reading (take n new) count p) (drop i part)
+-- bytes that go to the line
+bytes_more : (xs ys line : List ℕ) (count : ℕ) (p : Progress) → is_refused p ≡ false → ((i : ℕ) → i < length xs → get_or xs i 0 ≡ 10 → ⊥) → length line + length xs ≤ 8192
+    → fed (reading line count p) (xs ++ ys) ≡ fed (reading (line ++ xs) count p) ys
+unfolding fed
+bytes_more [] ys line count p e h l = ap (λ (z : List ℕ). fed (reading z count p) ys) (sym (append-nil line))
+bytes_more (x ∷ xs) ys line count p e h l =
+    ap (λ (r : Reading). fed r (xs ++ ys)) (byte_more line count p x e (h 0 (omega arith)) (omega arith))
+    ∙ bytes_more xs ys (line ++ (x ∷ [])) count p e (λ i k. h (suc i) (omega (arith, k))) (omega (arith, length-append line (x ∷ [])))
+    ∙ ap (λ (z : List ℕ). fed (reading z count p) ys) (append_assoc line (x ∷ []) xs)
 
-module _ {part : List ℕ} {from : ℕ} {old : List ℕ} {at : ℕ} where
-  pub collecting : from ≤ length part → at ≤ 8192 → 8192 ≤ length old → Collecting part from old at from at old
-  collecting h a r =
-      record { low = omega arith; high = h; many = omega arith; short = a; room = r; same = refl; whole = λ count p e. refl }
+-- where the first of the items that pass stands, or their end
+abbrev first_or_end : (ℕ → Bool) → List ℕ → ℕ
+first_or_end p xs = unwrap_or (position p xs) (length xs)
 
-  module _ {i n : ℕ} {new : List ℕ} (c : Collecting part from old at i n new) where
-    one_more_lem : i < length part → (get_or part i 0 ≡ 10 → ⊥) → n < length new → length (take n new) < 8192 → (count : ℕ) (p : Progress) → is_refused p ≡ false
-        → fed (reading (take n new) count p) (drop i part) ≡ fed (reading (take (n + 1) (set new n (get_or part i 0))) count p) (drop (i + 1) part)
-    one_more_lem h b fits short count p e =
-        let front : take (n + 1) (set new n (get_or part i 0)) ≡ take n new ++ (get_or part i 0 ∷ []) = rw add-one (take-suc-set new n (get_or part i 0) fits) in
-        fed-at part i (reading (take n new) count p) h (byte_more (take n new) count p (get_or part i 0) e b short ∙ ap (λ (l : List ℕ). reading l count p) (sym front))
+first_is : (p : ℕ → Bool) (xs : List ℕ) → first_or_end p xs ≡ position_or_len p xs
+first_is p xs = go (nat_lt (position_or_len p xs) (length xs)) refl
+  where
+    go : (t : Bool) → nat_lt (position_or_len p xs) (length xs) ≡ t → first_or_end p xs ≡ position_or_len p xs
+    go true e = rw e refl
+    go false e = rw e (omega (arith, ltb-false _ _ e, prefix_len-le-length (λ (x : ℕ). not (p x)) xs))
 
-    pub collecting_more : i < length part → (get_or part i 0 ≡ 10 → ⊥) → (n ≡ 8192 → ⊥) → Collecting part from old at (i + 1) (n + 1) (set new n (get_or part i 0))
-    collecting_more h b f =
-        let fits : n < length new = omega (arith, c.short, c.room, c.same, f) in
-        let short : length (take n new) < 8192 = omega (arith, c.short, f, length-take-le n new (omega (arith, fits))) in
-        record {
-          low = omega (arith, c.low);
-          high = omega arith;
-          many = omega (arith, c.many, c.low);
-          short = omega (arith, c.short, f);
-          room = c.room;
-          same = length-set new n (get_or part i 0) ∙ c.same;
-          whole = λ count p e. c.whole count p e ∙ one_more_lem h b fits short count p e;
-        }
+-- the bytes of a part before the first byte 10, of as many as the line has room for
+module _ (part : List ℕ) (from : ℕ) (old : List ℕ) (at : ℕ) (h : from ≤ length part) (few : at ≤ 8192) (long : 8192 ≤ length old)
+    {rest : List ℕ} (behind : rest ≡ drop from part) {room n : ℕ} (fits : room ≡ min (length rest) (8192 - at))
+    (e : n ≡ unwrap_or (position (λ (b : ℕ). b == 10) (take room rest)) room) where
+  h_rest : length rest ≡ length part - from
+  h_rest = ap length behind ∙ length-drop from part
 
-    pub collected : (i < length part → (get_or part i 0 ≡ 10 → ⊥) → n ≡ 8192) → Collected part from old at i new
-    collected f =
-        record {
-          low = c.low;
-          high = c.high;
-          short = omega (arith, c.many, c.short);
-          full = λ h b. sym c.many ∙ f h b;
-          same = λ count p e. c.whole count p e ∙ rw c.many;
-        }
+  h_room : length (take room rest) ≡ room
+  h_room = length-take-le room rest (omega (arith, fits))
+
+  first : n ≡ position_or_len (λ (b : ℕ). b == 10) (take room rest)
+  first = e ∙ ap (unwrap_or (position (λ (b : ℕ). b == 10) (take room rest))) (sym h_room) ∙ first_is (λ (b : ℕ). b == 10) (take room rest)
+
+  within : n ≤ room
+  within = omega (arith, first, h_room, prefix_len-le-length (λ (b : ℕ). not (b == 10)) (take room rest))
+
+  other : (i : ℕ) → i < length (take n rest) → get_or (take n rest) i 0 ≡ 10 → ⊥
+  other i l q =
+      let k : i < n = omega (arith, l, length-take-le n rest (omega (arith, h_rest, within, fits))) in
+      let same : get_or (take room rest) i 0 ≡ get_or (take n rest) i 0 = get_or-take room rest i 0 (omega (arith, k, within)) ∙ sym (get_or-take n rest i 0 k) in
+      eqb-false _ 10 (fails_before_first (λ (b : ℕ). b == 10) (take room rest) i 0 (omega (arith, k, first))) (same ∙ q)
+
+  stopped : n < room → get_or part (from + n) 0 ≡ 10
+  stopped l =
+      sym (get_or-drop from part n 0) ∙ ap (λ (l : List ℕ). get_or l n 0) (sym behind) ∙ sym (get_or-take room rest n 0 l)
+      ∙ ap (λ (i : ℕ). get_or (take room rest) i 0) first
+      ∙ eqb-true _ 10 (passes_at_first (λ (b : ℕ). b == 10) (take room rest) 0 (omega (arith, l, first, h_room)))
+
+  pub collected : {new : List ℕ} → new ≡ take at old ++ (take n rest ++ drop n (drop at old)) → Collected part from old at (from + n) new
+  collected {new} w =
+      let h_n : length (take n rest) ≡ n = length-take-le n rest (omega (arith, h_rest, within, fits)) in
+      let front : take (at + (from + n - from)) new ≡ take at old ++ take n rest =
+      ap (take (at + (from + n - from))) (w ∙ sym (append_assoc (take at old) (take n rest) (drop n (drop at old))))
+      ∙ take_at (take at old ++ take n rest) _ _ (omega (arith, length-append (take at old) (take n rest), h_n, length-take-le at old (omega (arith, few, long)))) in
+      let parted : drop from part ≡ take n rest ++ drop (from + n) part = sym behind ∙ sym (take-append-drop n rest) ∙ ap (λ (l : List ℕ). take n rest ++ l) (ap (drop n) behind ∙ drop-drop n from part) in
+      record {
+        low = omega arith;
+        high = omega (arith, h, h_rest, within, fits);
+        short = omega (arith, within, fits, few);
+        full = λ l b. by_cases (dec_lt n room) (λ k. absurd (b (stopped k))) (λ k. omega (arith, l, k, h_rest, within, fits, few));
+        same = λ count p q. ap (fed (reading (take at old) count p)) parted
+            ∙ bytes_more (take n rest) (drop (from + n) part) (take at old) count p q other (omega (arith, h_n, within, fits, few, length-take-le at old (omega (arith, few, long))))
+            ∙ ap (λ (l : List ℕ). fed (reading l count p) (drop (from + n) part)) (sym front);
+      }

@@ -1,16 +1,19 @@
 -- The bytes of a part, taken line by line. Assumes nothing.
 use mathlib.Core.Path.{◌≡◌, refl, sym, ap, ◌∙◌}
-use mathlib.Core.Bool.{Bool, true, false, false≢true}
+use mathlib.Core.Logic.{◌≢◌}
+use mathlib.Core.Bool.{true, false}
 use mathlib.Core.List.{List, [], ◌∷◌}
 use Prim.Native.Nat.{ℕ, ◌+◌, ◌-◌, ◌≤◌, ◌<◌}
 use native.Mathlib.Omega.{arith}
 use borrow.Author.Tests.{eq-eqb, ne_eqb, le-ltb}
 use lib.ListN.{length, take, drop, get_or, drop_of_length-le}
 use lib.Seq.{length-take-le}
+use Rattle.file_lines.specs.declared.FileStage.{FileStage}
+use Rattle.file_lines.specs.declared.FileStage.TheVariants.{First, Gathering, Metering, Refused}
 use Rattle.file_lines.specs.declared.MonthFile.{MonthFile}
 use Rattle.file_lines.specs.File as file
-use Rattle.file_lines.specs.File.{whole, read}
-use Rattle.file_lines.specs.State.{is_refused, Kept, progress_of, Valid, Moved, file_with, at_stage, at_refusal}
+use Rattle.file_lines.specs.File.{whole, Progress, read}
+use Rattle.file_lines.specs.State.{is_refused, Kept, progress_at, progress_of, Valid, Moved, file_with, at_stage, at_refusal}
 use Rattle.month_file.specs.Bytes.{Reading, ended, longer, byte, fed}
 use Rattle.month_file.specs.Machine.{reading_of, Collected, Stepped, Fed}
 use Rattle.file_lines.proofs.Following.{reads}
@@ -40,6 +43,13 @@ byte_full r b e h l = rw (e, ne_eqb b 10 h, le-ltb (length r.line) 8192 l)
 abbrev pub lengthened : MonthFile → ℕ → MonthFile
 lengthened f n = file_with f f.stage n f.count f.month f.number
 
+progress_same : (s : FileStage) (f : MonthFile) (k : Kept) (n : ℕ) → progress_at s f k ≡ progress_at s (lengthened f n) k
+unfolding progress_at
+progress_same First f k n = refl
+progress_same Gathering f k n = refl
+progress_same Metering f k n = refl
+progress_same Refused f k n = refl
+
 valid-longer : (f : MonthFile) (k : Kept) (n : ℕ) → Valid f k → n ≤ 8192 → Valid (lengthened f n) k
 valid-longer f k n v h =
     record {
@@ -50,26 +60,20 @@ valid-longer f k n v h =
       settling = λ e. let g = v.settling e in record { counted = g.counted; rows = g.rows; bounded = g.bounded };
     }
 
-pub refused-progress : (f : MonthFile) (k : Kept) → 2 < f.stage → progress_of f k ≡ file.refuses f.count f.number
-unfolding progress_of
-refused-progress f k s = rw (ne_eqb f.stage 0 (λ e. omega arith), ne_eqb f.stage 1 (λ e. omega arith), ne_eqb f.stage 2 (λ e. omega arith))
+pub refused-progress : (f : MonthFile) (k : Kept) → f.stage ≡ Refused → progress_of f k ≡ file.refuses f.count f.number
+unfolding progress_at progress_of
+refused-progress f k s = rw s
 
--- bytes that end no line
-stepped : {f : MonthFile} {k : Kept} {line part : List ℕ} {from : ℕ} {r : MonthFile} {after : List ℕ} {to : ℕ} → from < to → to ≤ length part → Valid r k
-    → fed (reading_of f k line) (drop from part) ≡ fed (reading_of r k after) (drop to part) → Stepped f k line part from r after to false
-stepped low high v e =
-    record { low = low; high = high; valid = v; goes = λ _. e; ends = λ t. absurd (false≢true t); due = λ t. absurd (false≢true t) }
-
-module _ (f : MonthFile) (k : Kept) (v : Valid f k) (line part : List ℕ) (from : ℕ) (h : from < length part) where
-  is_refused_lem : 2 < f.stage → is_refused (reading_of f k line).progress ≡ true
+module _ {f : MonthFile} {k : Kept} (v : Valid f k) (line part : List ℕ) (from : ℕ) where
+  is_refused_lem : f.stage ≡ Refused → is_refused (reading_of f k line).progress ≡ true
   unfolding reading_of is_refused
   is_refused_lem s = ap is_refused (refused-progress f k s)
 
   -- after a refusal
-  pub skipped : 2 < f.stage → Stepped f k line part from f line (length part) false
-  skipped s = stepped h (omega arith) v (fed-refused (drop from part) _ (is_refused_lem s) ∙ sym (fed-refused (drop (length part) part) _ (is_refused_lem s)))
+  pub skipped : f.stage ≡ Refused → Fed f k line (drop from part) f k line
+  skipped s = record { valid = v; stands = sym (fed-refused (drop from part) _ (is_refused_lem s)) }
 
-  module _ (due : f.stage ≤ 2) (new : List ℕ) (end : ℕ) (c : Collected part from line f.length end new) where
+  module _ (due : f.stage ≢ Refused) {new : List ℕ} {end : ℕ} (c : Collected part from line f.length end new) where
     abbrev more : MonthFile
     more = lengthened f (f.length + (end - from))
 
@@ -78,14 +82,21 @@ module _ (f : MonthFile) (k : Kept) (v : Valid f k) (line part : List ℕ) (from
 
     going : is_refused (reading_of more k new).progress ≡ false
     unfolding reading_of
-    going = unrefused more k valid-more due
+    going = unrefused valid-more due
 
     collected_same : fed (reading_of f k line) (drop from part) ≡ fed (reading_of more k new) (drop end part)
     unfolding reading_of progress_of
-    collected_same = c.same f.count (progress_of f k) (unrefused f k v due)
+    collected_same =
+        c.same f.count (progress_of f k) (unrefused v due)
+        ∙ ap (λ (p : Progress). fed (record { line = take more.length new; count = f.count; progress = p }) (drop end part)) (progress_same f.stage f k more.length)
 
-    pub to_the_end : end ≡ length part → Stepped f k line part from more new end false
-    to_the_end e = stepped (omega arith) c.high valid-more collected_same
+    pub to_the_end : end ≡ length part → Fed f k line (drop from part) more k new
+    unfolding fed
+    to_the_end e =
+        record {
+          valid = valid-more;
+          stands = sym (collected_same ∙ ap (fed (reading_of more k new)) (drop_of_length-le part (omega (arith, e))));
+        }
 
     module _ (left : end ≡ length part → ⊥) where
       inside : end < length part
@@ -99,21 +110,22 @@ module _ (f : MonthFile) (k : Kept) (v : Valid f k) (line part : List ℕ) (from
       unfolding reading_of
       full l b = omega (arith, c.full inside b, length-take-le more.length new (omega (arith, c.full inside b)))
 
-      pub no_room : 8192 ≤ length new → (get_or part end 0 ≡ 10 → ⊥) → (r : MonthFile) → r ≡ at_refusal more 26 → Stepped f k line part from r new (end + 1) false
-      unfolding reading_of at_refusal at_stage progress_of
+      pub no_room : 8192 ≤ length new → (get_or part end 0 ≡ 10 → ⊥) → (r : MonthFile) → r ≡ at_refusal more 26 → Fed f k line (drop from part) r k new
+      unfolding reading_of at_refusal at_stage progress_at progress_of is_refused
       no_room l b r e =
-          stepped (omega (arith, c.low)) (omega (arith, inside)) (rw e (refused_moved more k v.lent 26).valid)
-          (one_more_lem _ (byte_full _ (get_or part end 0) going b (full l b) ∙ rw e))
+          record {
+            valid = rw e (refused_moved more k v.lent 26).valid;
+            stands = rw e (sym (one_more_lem _ (byte_full _ (get_or part end 0) going b (full l b)) ∙ fed-refused (drop (end + 1) part) _ refl));
+          }
 
-      pub line-ends : get_or part end 0 ≡ 10 → Stepped f k line part from more new (end + 1) true
+      pub line-ends : get_or part end 0 ≡ 10 → Stepped f k line part from more new (end + 1)
       line-ends b =
           record {
             low = omega (arith, c.low);
             high = omega (arith, inside);
             valid = valid-more;
-            goes = λ t. absurd (false≢true (sym t));
-            ends = λ _. one_more_lem _ (byte-ends _ (get_or part end 0) going b);
-            due = λ _. due;
+            due = due;
+            ends = one_more_lem _ (byte-ends _ (get_or part end 0) going b);
           }
 
 -- ---- the part
@@ -121,7 +133,7 @@ module _ (f : MonthFile) (k : Kept) (v : Valid f k) (line part : List ℕ) (from
 -- the lists have the lengths that they had
 pub record Alike (line₀ : List ℕ) (k₀ : Kept) (line : List ℕ) (k : Kept) : Type 0 where
   pub bytes : length line ≡ length line₀
-  pub columns : length k.columns ≡ length k₀.columns
+  pub plants : length k.plants ≡ length k₀.plants
   pub profile : length k.profile ≡ length k₀.profile
   pub allotted : length k.allotted ≡ length k₀.allotted
   pub accounts : length k.accounts ≡ length k₀.accounts
@@ -132,7 +144,7 @@ module _ {line₀ : List ℕ} {k₀ : Kept} {line : List ℕ} {k : Kept} {line�
   alike_more a s =
       record {
         bytes = s.bytes ∙ a.bytes;
-        columns = s.columns ∙ a.columns;
+        plants = s.plants ∙ a.plants;
         profile = s.profile ∙ a.profile;
         allotted = s.allotted ∙ a.allotted;
         accounts = s.accounts ∙ a.accounts;
@@ -142,7 +154,7 @@ pub bytes_alike : {line line₁ : List ℕ} {k : Kept} → length line₁ ≡ le
 bytes_alike l =
     record {
       bytes = l;
-      columns = refl;
+      plants = refl;
       profile = refl;
       allotted = refl;
       accounts = refl;
@@ -152,11 +164,11 @@ pub alike_self : {line : List ℕ} {k : Kept} → Alike line k line k
 alike_self = bytes_alike refl
 
 -- a line that has ended, taken
-line_taken : (f : MonthFile) (k : Kept) → Valid f k → f.stage ≤ 2 → (line : List ℕ) {r : MonthFile} {q : Kept}
+line_taken : (f : MonthFile) (k : Kept) → Valid f k → f.stage ≢ Refused → (line : List ℕ) {r : MonthFile} {q : Kept}
     → Moved f (read (f.count + 1) (progress_of f k) (whole (take f.length line))) r q → ended (reading_of f k line) ≡ reading_of r q line
 unfolding reading_of ended
 line_taken f k v due line m =
-    rw (m.stands, m.empty, m.counted, reads (f.count + 1) (progress_of f k) (whole (take f.length line)) (unrefused f k v due))
+    rw (m.stands, m.empty, m.counted, reads (f.count + 1) (progress_of f k) (whole (take f.length line)) (unrefused v due))
 
 -- a loop that has taken a part up to a byte
 pub record Feeding (part line₀ : List ℕ) (k₀ : Kept) (f₀ : MonthFile) (line : List ℕ) (k : Kept) (f : MonthFile) (at : ℕ) : Type 0 where
@@ -167,38 +179,16 @@ pub record Feeding (part line₀ : List ℕ) (k₀ : Kept) (f₀ : MonthFile) (l
   pub same : fed (reading_of f₀ k₀ line₀) part ≡ fed (reading_of f k line) (drop at part)
 
 module _ {part line₀ : List ℕ} {k₀ : Kept} {f₀ : MonthFile} where
-  pub feeding : 8192 ≤ length line₀ → Valid f₀ k₀ → Feeding part line₀ k₀ f₀ line₀ k₀ f₀ 0
-  feeding w v =
-      record {
-        high = omega arith;
-        room = w;
-        alike = alike_self;
-        valid = v;
-        same = refl;
-      }
-
   module _ {line : List ℕ} {k : Kept} {f : MonthFile} {at : ℕ} (c : Feeding part line₀ k₀ f₀ line k f at) where
-    -- bytes that end no line
-    pub feeding_on : {f₁ : MonthFile} {line₁ : List ℕ} {to : ℕ} {isEnded : Bool} → Stepped f k line part at f₁ line₁ to isEnded → isEnded ≡ false → length line₁ ≡ length line
-        → Feeding part line₀ k₀ f₀ line₁ k f₁ to
-    feeding_on s e l =
-        let a = bytes_alike l in
-        record { high = s.high; room = omega (arith, c.room, l); alike = alike_more c.alike a; valid = s.valid; same = c.same ∙ s.goes e }
-
-    -- ... and a line that is taken
-    pub feeding_line : {f₁ : MonthFile} {line₁ : List ℕ} {to : ℕ} {isEnded : Bool} → Stepped f k line part at f₁ line₁ to isEnded → isEnded ≡ true → length line₁ ≡ length line
-        → {k₁ : Kept} {f₂ : MonthFile} → Moved f₁ (read (f₁.count + 1) (progress_of f₁ k) (whole (take f₁.length line₁))) f₂ k₁
+    -- a line that has ended is taken
+    pub feeding_line : {f₁ : MonthFile} {line₁ : List ℕ} {to : ℕ} → Stepped f k line part at f₁ line₁ to → length line₁ ≡ length line → {k₁ : Kept} {f₂ : MonthFile} → Moved f₁ (read (f₁.count + 1) (progress_of f₁ k) (whole (take f₁.length line₁))) f₂ k₁
         → Alike line₁ k line₁ k₁ → Feeding part line₀ k₀ f₀ line₁ k₁ f₂ to
-    feeding_line {f₁} {line₁} {to} s e l m w =
+    feeding_line {f₁} {line₁} {to} s l m w =
         let a = alike_more (bytes_alike l) w in
         record {
           high = s.high;
           room = omega (arith, c.room, l);
           alike = alike_more c.alike a;
           valid = m.valid;
-          same = c.same ∙ s.ends e ∙ ap (λ (r : Reading). fed r (drop to part)) (line_taken f₁ k s.valid (s.due e) line₁ m);
+          same = c.same ∙ s.ends ∙ ap (λ (r : Reading). fed r (drop to part)) (line_taken f₁ k s.valid s.due line₁ m);
         }
-
-    pub all_fed : length part ≤ at → Fed f₀ k₀ line₀ part f k line
-    unfolding fed
-    all_fed h = record { valid = c.valid; stands = sym (c.same ∙ ap (fed (reading_of f k line)) (drop_of_length-le part h)) }

@@ -7,10 +7,11 @@ use Rattle.statement.specs.Writing.{Fills}
 use Rattle.file_lines.specs.declared.MonthFile.{MonthFile}
 use Rattle.file_lines.specs.File.{settled_file}
 use Rattle.month_file.specs.Bytes.{Reading, fed_parts, finished}
-use Rattle.file_lines.specs.State.{Kept, progress_of, Lent, Valid, at_start}
+use Rattle.file_lines.specs.State.{Kept, progress_at, progress_of, Lent, Valid, at_start}
 use Rattle.month_file.specs.Machine.{reading_of, Fresh}
 use Rattle.month_file.specs.Run.{Place, Feeds, none, more, Promised}
-use Rattle.file_lines.proofs.Moves.{valid-begun}
+use Rattle.file_lines.proofs.Moves.{valid_at}
+use Rattle.file_lines.specs.declared.FileStage.TheVariants.{First}
 use Rattle.month_file.proofs.Bytes as bytes
 
 abbrev read_at : Place → Reading
@@ -34,9 +35,9 @@ feeds_written {parts = parts} {before} {n} {after} s r h =
 -- ---- before the first byte
 
 start-fresh : (k : Kept) (line : List ℕ) → Lent k → Fresh at_start k line
-unfolding reading_of progress_of
+unfolding reading_of progress_at progress_of
 start-fresh k line lent =
-    record { valid = valid-begun at_start k lent (omega arith) refl refl; stands = refl }
+    record { valid = valid_at at_start k lent (omega arith) First refl refl; stands = refl }
 
 -- what `fresh` answers
 pub fresh_is : {f : MonthFile} → f ≡ at_start → (k : Kept) (line : List ℕ) → Lent k → Fresh f k line

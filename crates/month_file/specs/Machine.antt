@@ -1,8 +1,9 @@
 -- The machine that reads the file's bytes: how its state and the lent lists stand for how far the bytes have come. Assumes nothing.
-use Rattle.std.specs.Prelude.{◌≡◌, ℕ, ◌+◌, ◌-◌, ◌≤◌, ◌<◌, Bool, true, false, List, length, take, drop, get_or}
+use Rattle.std.specs.Prelude.{◌≡◌, ◌≢◌, ℕ, ◌+◌, ◌-◌, ◌≤◌, ◌<◌, false, List, length, take, drop, get_or}
 use Rattle.lists.specs.Questions.{outcome}
 use Rattle.lines.specs.Fields.{longest}
 use Rattle.lines.specs.Reading.{read_number}
+use Rattle.file_lines.specs.declared.FileStage.TheVariants.{Metering, Refused}
 use Rattle.file_lines.specs.declared.MonthFile.{MonthFile}
 use Rattle.file_lines.specs.File.{Progress, printed}
 use Rattle.file_lines.specs.State.{Kept, progress_of, is_refused, Valid}
@@ -29,15 +30,13 @@ pub record Fresh (f : MonthFile) (k : Kept) (line : List ℕ) : Type 0 where
   pub valid : Valid f k
   pub stands : reading_of f k line ≡ start
 
--- bytes of a part were taken, up to `to`: the rest of it gives from here on what it gave from `from` on, once a line that has come to its byte 10
--- is taken
-pub record Stepped (f : MonthFile) (k : Kept) (line part : List ℕ) (from : ℕ) (r : MonthFile) (after : List ℕ) (to : ℕ) (isEnded : Bool) : Type 0 where
+-- bytes of a part were taken, from `from` on, up to a byte 10: the rest of it, from `to` on, gives what they gave, once the line that has ended is taken
+pub record Stepped (f : MonthFile) (k : Kept) (line part : List ℕ) (from : ℕ) (r : MonthFile) (after : List ℕ) (to : ℕ) : Type 0 where
   pub low : from < to
   pub high : to ≤ length part
   pub valid : Valid r k
-  pub goes : isEnded ≡ false → fed (reading_of f k line) (drop from part) ≡ fed (reading_of r k after) (drop to part)
-  pub ends : isEnded ≡ true → fed (reading_of f k line) (drop from part) ≡ fed (ended (reading_of r k after)) (drop to part)
-  pub due : isEnded ≡ true → r.stage ≤ 2
+  pub due : r.stage ≢ Refused
+  pub ends : fed (reading_of f k line) (drop from part) ≡ fed (ended (reading_of r k after)) (drop to part)
 
 -- a part was taken: the state and the lists stand for its bytes, one by one
 pub record Fed (f : MonthFile) (k : Kept) (line part : List ℕ) (r : MonthFile) (q : Kept) (after : List ℕ) : Type 0 where
@@ -53,10 +52,10 @@ unended_number line = outcome (read_number line 513) 31 (λ n. n)
 -- the month is open and its last period is settled
 pub record Finishable (f : MonthFile) (k : Kept) : Type 0 where
   pub valid : Valid f k
-  pub settling : f.stage ≡ 2
+  pub settling : f.stage ≡ Metering
   pub last : f.month.due ≡ f.month.periods + 1
 
 -- the input has ended: r is refused, or its last period is settled, and it prints what f and the line that has begun print
 pub record AtEnd (f : MonthFile) (k : Kept) (line : List ℕ) (r : MonthFile) : Type 0 where
   pub prints : finished (reading_of f k line) ≡ printed r.count (progress_of r k)
-  pub finishable : r.stage ≤ 2 → Finishable r k
+  pub finishable : r.stage ≢ Refused → Finishable r k

@@ -1,19 +1,22 @@
 // The end of the file: the statement after close, or the refusal, is written.
-ghost use Rattle.std.specs.Prelude.{◌≡◌, ◌≤◌, ◌<◌, length};
+ghost use Rattle.std.specs.Prelude.{◌≡◌, ◌≤◌, ◌<◌, ◌≢◌, length};
 ghost use Rattle.lines.specs.Fields.{longest};
 ghost use Rattle.statement.specs.Statement.{room_for};
 ghost use Rattle.statement.specs.Writing.{Fills};
+ghost use Rattle.file_lines.specs.declared.FileStage.TheVariants as stage;
 ghost use Rattle.file_lines.specs.File.{refusal, printed};
 ghost use Rattle.month_file.specs.Bytes.{finished};
 ghost use Rattle.file_lines.specs.State.{Kept, kept, progress_of, Valid, at_refusal};
 ghost use Rattle.month_file.specs.Machine.{reading_of, unended_number, AtEnd, Finishable};
 
 use figures::writing::write_byte;
-use file_lines::MonthFile;
+use file_lines::{FileStage, MonthFile};
 use ledger::{ACCOUNTS, ALLOTTED};
 use lines::fields::FIELDS;
 use lines::reading::read_line;
 use month::stating::write_rows;
+use plants::Plant;
+use refusals::Refusal;
 use statement::writing::write_leading;
 
 // `R,line,number` alone.
@@ -31,57 +34,54 @@ fn unended(file: MonthFile, line: &[u8]) -> MonthFile
     ensures { result ≡ at_refusal file (unended_number line.now) }
 {
     let mut figures = [0u64; FIELDS];
-    let answer = read_line(line, &mut figures);
-    if answer.number != 0 {
-        return file.refused(answer.number);
+    match read_line(line, &mut figures) {
+        Ok(_) => file.refused(Refusal::OutOfTurn),
+        Err(refusal) => file.refused(refusal),
     }
-    file.refused(31)
 }
 
 // The state after the last byte. An early end is 31 too, as the line after the last.
 fn at_end(file: MonthFile, line: &[u8]) -> MonthFile
-    requires { (file.stage ≤ 2 → file.count < 10000) × (file.length ≤ length line.now) }
+    requires { (file.stage ≢ stage.Refused → file.count < 10000) × (file.length ≤ length line.now) }
     ensures { (k : Kept) → Valid file k → AtEnd file k line.now result }
 {
-    if 2 < file.stage {
+    let length = file.length;
+    let month = file.month;
+    if file.stage == FileStage::Refused {
         return file;
     }
-    let length = file.length;
     if length != 0 {
         return unended(file, &line[..length]);
     }
-    if file.stage != 2 {
-        return file.refused(31);
-    }
-    let month = file.month;
-    if month.due <= month.periods {
-        return file.refused(31);
+    if file.stage != FileStage::Metering || month.due <= month.periods {
+        return file.refused(Refusal::OutOfTurn);
     }
     file
 }
 
-// Every period is settled: the month is closed, which is not refused, and its statement written.
+// Every period is settled: the month is closed, which is not refused here, and its statement written.
+#[tactic(auto, unfolding(statement::specs::Statement::room_for))]
 fn write_month(
     file: MonthFile,
-    columns: &[u64],
+    plants: &[Plant],
     profile: &[u64],
     allotted: &[u64],
     accounts: &[i64],
     text: &mut [u8],
 ) -> usize
-    requires { Finishable file (kept columns.now profile.now allotted.now accounts.now) × (room_for 512 ≤ length text.old) }
-    ensures { Fills (printed file.count (progress_of file (kept columns.now profile.now allotted.now accounts.now))) text.old result text.new }
+    requires { Finishable file (kept plants.now profile.now allotted.now accounts.now) × (room_for 512 ≤ length text.old) }
+    ensures { Fills (printed file.count (progress_of file (kept plants.now profile.now allotted.now accounts.now))) text.old result text.new }
 {
-    let month = file.month;
-    let end = month.close();
-    let closed = end.month;
-    let rows = month.plants as usize;
+    let mut month = file.month;
+    if let Err(refusal) = month.close() {
+        return write_refusal(file.count, refusal.number(), text);
+    }
+    let rows = file.month.plants as usize;
     let fours = ALLOTTED * rows;
     let twos = ACCOUNTS * rows;
     write_rows(
-        closed.due - 1,
-        rows,
-        columns,
+        month.due - 1,
+        &plants[..rows],
         &allotted[..fours],
         &accounts[..twos],
         text,
@@ -89,22 +89,23 @@ fn write_month(
 }
 
 // The input has ended: what is printed stands at the front of the text, and its length is answered.
+#[tactic(auto, unfolding(statement::specs::Statement::room_for))]
 pub fn finish(
     file: MonthFile,
     line: &[u8],
-    columns: &[u64],
+    plants: &[Plant],
     profile: &[u64],
     allotted: &[u64],
     accounts: &[i64],
     text: &mut [u8],
 ) -> usize
     requires longest_in_bounds { (longest ≤ length line.now) × (room_for 512 ≤ length text.old) }
-    requires valid { Valid file (kept columns.now profile.now allotted.now accounts.now) }
-    ensures { Fills (finished (reading_of file (kept columns.now profile.now allotted.now accounts.now) line.now)) text.old result text.new }
+    requires valid { Valid file (kept plants.now profile.now allotted.now accounts.now) }
+    ensures { Fills (finished (reading_of file (kept plants.now profile.now allotted.now accounts.now) line.now)) text.old result text.new }
 {
     let end = at_end(file, line);
-    if 2 < end.stage {
+    if end.stage == FileStage::Refused {
         return write_refusal(end.count, end.number, text);
     }
-    write_month(end, columns, profile, allotted, accounts, text)
+    write_month(end, plants, profile, allotted, accounts, text)
 }

@@ -1,5 +1,5 @@
 -- A field by its start and its length. Assumes nothing.
-use mathlib.Core.Path.{◌≡◌, refl, sym, subst, ◌∙◌}
+use mathlib.Core.Path.{◌≡◌, refl, sym, ap, subst, ◌∙◌}
 use mathlib.Core.Logic.{by_cases}
 use mathlib.Core.List.{List}
 use Prim.Native.Nat.{ℕ, zero, suc, ◌+◌, ◌-◌, ◌≤◌, ◌<◌}
@@ -8,8 +8,8 @@ use native.Mathlib.Omega.{arith}
 use lib.ListN.{length, take, drop}
 use Rattle.lines.specs.Fields.{next_comma, fields, field_number, field_bytes}
 use Rattle.lines.specs.Inner.{first_field, Starts}
-use Rattle.lines.proofs.Commas.{Skipping, skipping, skipping_more, skipped, skipped_all, field_absent, next_low, next-high, field_long, field_part}
-use Rattle.lines.proofs.Parts.{start_none, bytes-none, present, in_line, start-there, bytes-there}
+use Rattle.lines.proofs.Commas.{Skipping, skipping, skipping_more, skipped, skipped_all, field_absent, next-high, field_long, field_part}
+use Rattle.lines.proofs.Parts.{start_none, bytes-none, present, start-there, bytes-there}
 use Rattle.places.specs.declared.FieldPlace.{FieldPlace}
 use Rattle.places.specs.Parts.{field_place}
 use Rattle.places.specs.Laws.{Parts}
@@ -21,13 +21,12 @@ module _ (l : List ℕ) (index : ℕ) where
   unfolding field_place
   no_place n e h = rw (← e, ← start_none l index e h, ← bytes-none l index e h)
 
-  module _ {n r : ℕ} (s : Starts l index r) (e : n ≡ field_number l index) (z : n ≡ 0) where
-    pub placed : {c : ℕ} → c ≡ next_comma l r → ◌≡◌ {A = FieldPlace} (record { number = 0; start = r; length = c - r }) (field_place l index)
-    unfolding field_place
-    placed {c} p =
-        let number : 0 ≡ field_number l index = sym z ∙ e in
-        let long : c - r ≡ length (first_field (drop r l)) = omega (arith, field_long l r (in_line l index e z s)) in
-        rw (← number, ← start-there l index e z s, ← bytes-there l index e z s, long)
+  pub placed : {n r : ℕ} → Starts l index r → n ≡ field_number l index → n ≡ 0 → {part : List ℕ} → part ≡ first_field (drop r l)
+      → ◌≡◌ {A = FieldPlace} (record { number = 0; start = r; length = length part }) (field_place l index)
+  unfolding field_place
+  placed s e z p =
+      let number : 0 ≡ field_number l index = sym z ∙ e in
+      rw (p, ← number, ← start-there l index e z s, ← bytes-there l index e z s)
 
 -- ---- the promises
 
@@ -44,8 +43,9 @@ both : (l : List ℕ) (index n : ℕ) → n ≡ field_number l index → ((field
     × (take (field_place l index).length (drop (field_place l index).start l) ≡ field_bytes l index)
 both l index zero e =
     let t = there l index index 0 (present l index e refl) skipping in
+    let long : next_comma l t.0 - t.0 ≡ length (first_field (drop t.0 l)) = omega (arith, field_long l t.0 t.1) in
     rw (← placed l index t.2 e refl refl)
-    (omega (arith, next_low l t.0, next-high l t.0 t.1), field_part l t.0 t.1 _ refl ∙ bytes-there l index e refl t.2)
+    (omega (arith, field_long l t.0 t.1, next-high l t.0 t.1), ap (λ (n : ℕ). take n (drop t.0 l)) (sym long) ∙ field_part l t.0 t.1 _ refl ∙ bytes-there l index e refl t.2)
 both l index (suc n) e = rw (← no_place l index (suc n) e (λ z. omega (arith, z))) (omega arith, bytes-none l index e (λ z. omega (arith, z)))
 
 pub parts : Parts

@@ -4,6 +4,8 @@
 ghost use Rattle.std.specs.Prelude.{◌≡◌};
 ghost use Rattle.places.specs.Parts.{field_place};
 
+use lines::fields::{ask_field, field_at, field_start};
+
 // What the field call answers to C: the number, and the part of the line by its start and its length.
 #[repr(C)]
 #[derive(Clone, Copy)]
@@ -17,19 +19,19 @@ pub struct FieldPlace {
 pub fn field_place(line: &[u8], index: u64) -> FieldPlace
     ensures { result ≡ field_place line.now index }
 {
-    let number = lines::fields::field_number(line, index);
-    if number != 0 {
-        return FieldPlace {
-            number,
+    match ask_field(line, index) {
+        Ok(()) => {
+            let start = field_start(line, index);
+            FieldPlace {
+                number: 0,
+                start: start as u64,
+                length: field_at(line, start).len() as u64,
+            }
+        }
+        Err(refusal) => FieldPlace {
+            number: refusal.number(),
             start: 0,
             length: 0,
-        };
-    }
-    let start = lines::fields::field_start(line, index);
-    let end = lines::fields::next_comma(line, start);
-    FieldPlace {
-        number: 0,
-        start: start as u64,
-        length: (end - start) as u64,
+        },
     }
 }

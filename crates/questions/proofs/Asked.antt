@@ -1,14 +1,15 @@
 -- What follows where questions 2 to 11, and 19, are answered yes: from number 0 to a record of facts. Assumes nothing.
-use mathlib.Core.Path.{◌≡◌, sym, ◌∙◌, subst}
+use mathlib.Core.Path.{◌≡◌, refl, sym, ◌∙◌, subst}
 use mathlib.Core.Bool.{true}
 use mathlib.Core.List.{List, [], ◌∷◌, map}
 use Prim.Native.Nat.{ℕ, zero, suc, ◌*◌, ◌^◌, ◌≤◌, ◌<◌, zero-le}
 use borrow.Author.Tests.{leb-true, ltb-true, eqb-true}
-use lib.ListN.{length, get_or, get_or-map}
+use lib.ListN.{length, get_or}
 use Rattle.lists.specs.Lists.{sum, most, at_most, Within}
+use Rattle.lists.proofs.Columns.{get_or-map_to}
 use Rattle.lists.proofs.Questions.{asked, parted, both, limits, then_zero}
-use Rattle.hour.specs.declared.Plant.{Plant}
-use Rattle.hour.specs.Table.{none}
+use Rattle.plants.specs.declared.Plant.{Plant}
+use Rattle.plants.specs.Plants.{none}
 use Rattle.ledger.specs.Ledger.{Ledger, in_bounds}
 use Rattle.questions.specs.Questions.{sizes_number, placed, numbered, row_number, rows_number, lengths_number, ledger_number, tables_number}
 
@@ -74,13 +75,16 @@ rows_limited s n [] e i = record { submarket = zero-le; number = zero-le; guaran
 rows_limited s n (p ∷ ps) e zero = (first-row s n p ps e).limited
 rows_limited s n (p ∷ ps) e (suc i) = rows_limited p.submarket p.number ps (first-row s n p ps e).others i
 
--- ... of the columns that the statement shows
+-- ... a figure of each row within the limit that it has in one row
+pub field-within : (f : Plant → ℕ) (b : ℕ) → f none ≡ 0 → ((p : Plant) → Limited p → f p ≤ b) → (ps : List Plant) → rows_number 0 0 ps ≡ 0
+    → Within (map f ps) b
+field-within f b z g ps e =
+    record { at = λ i. subst (λ (x : ℕ). x ≤ b) (sym (get_or-map_to f none z ps i)) (g (get_or ps i none) (rows_limited 0 0 ps e i)) }
+
+-- ... of what the statement shows of a row
 pub rows-shown : (ps : List Plant) → rows_number 0 0 ps ≡ 0
     → Within (map (λ (p : Plant). p.submarket) ps) 4 × Within (map (λ (p : Plant). p.number) ps) 999999
-rows-shown ps e = (
-  record { at = λ i. subst (λ (x : ℕ). x ≤ 4) (sym (get_or-map (λ (p : Plant). p.submarket) ps i none)) (rows_limited 0 0 ps e i).submarket },
-  record { at = λ i. subst (λ (x : ℕ). x ≤ 999999) (sym (get_or-map (λ (p : Plant). p.number) ps i none)) (rows_limited 0 0 ps e i).number },
-)
+rows-shown ps e = (field-within _ 4 refl (λ p r. r.submarket) ps e, field-within _ 999999 refl (λ p r. r.number) ps e)
 
 -- 11
 pub record Lengths (p : ℕ) (l : Ledger) : Type 0 where

@@ -2,7 +2,7 @@
 use Rattle.std.specs.Prelude.{ℕ, ◌*◌, ◌^◌, Bool, not, ◌&&◌, ◌||◌, List, [], ◌∷◌, leb, ltb, eqb, length}
 use Rattle.lists.specs.Lists.{sum, most, at_most}
 use Rattle.lists.specs.Questions.{◌⁇◌, part, ◌then◌, first_no, in_range}
-use Rattle.hour.specs.declared.Plant.{Plant}
+use Rattle.plants.specs.declared.Plant.{Plant}
 use Rattle.ledger.specs.Ledger.{Ledger, in_bounds}
 
 -- 2: P in limits

@@ -1,12 +1,14 @@
-// Questions 2 to 11, and 19 of a ledger at hand, which several calls put (document 01, 'The questions'): each function answers the number of its definition.
+// Questions 2 to 11, and 19 of a ledger at hand, which several calls put (document 01, 'The questions'). Each function answers the first no of its
+// definition's list.
 #![tactic(auto)]
 
-ghost use Rattle.std.specs.Prelude.{◌≡◌, ◌≤◌, length};
-ghost use Rattle.records.specs.Records.{rows_of, table_places};
+ghost use Rattle.std.specs.Prelude.{◌≡◌};
+ghost use Rattle.refusals.specs.Numbers.{number};
 ghost use Rattle.questions.specs.Questions.{plants_in_limits, periods_in_limits, sizes_number, placed, numbered, row_number, rows_number, lengths_number, ledger_number, tables_number};
 
-use hour::Plant;
 use lists::{MOST, PERIODS, PLANTS, in_range};
+use plants::Plant;
+use refusals::{Refusal, ask};
 
 // 2: P in limits?
 pub fn plants_in_limits(plants: u64) -> bool
@@ -23,22 +25,17 @@ pub fn periods_in_limits(periods: u64) -> bool
 }
 
 // 2, 3 and 4: P, H and TEO in limits.
-pub fn sizes_number(plants: u64, periods: u64, tariff: u64) -> u64
-    ensures { result ≡ sizes_number plants periods tariff }
+#[tactic(auto, unfolding(crate::specs::Questions::sizes_number, lists::specs::Questions::first_no))]
+pub fn ask_sizes(plants: u64, periods: u64, tariff: u64) -> Result<(), Refusal>
+    ensures { number result ≡ sizes_number plants periods tariff }
 {
-    if !plants_in_limits(plants) {
-        return 2;
-    }
-    if !periods_in_limits(periods) {
-        return 3;
-    }
-    if 10000 < tariff {
-        return 4;
-    }
-    0
+    ask(plants_in_limits(plants), Refusal::PlantCount)?;
+    ask(periods_in_limits(periods), Refusal::PeriodCount)?;
+    ask(tariff <= 10000, Refusal::Tariff)
 }
 
 // 5: submarket 1 to 4, and not below that of the row before.
+#[tactic(auto, unfolding(crate::specs::Questions::placed))]
 pub fn is_placed(submarket_before: u64, submarket: u64) -> bool
     ensures { result ≡ placed submarket_before submarket }
 {
@@ -46,6 +43,7 @@ pub fn is_placed(submarket_before: u64, submarket: u64) -> bool
 }
 
 // 6: number in limits and, in the same submarket, above that of the row before.
+#[tactic(auto, unfolding(crate::specs::Questions::numbered))]
 pub fn is_numbered(submarket_before: u64, number_before: u64, submarket: u64, number: u64) -> bool
     ensures { result ≡ numbered submarket_before number_before submarket number }
 {
@@ -53,99 +51,71 @@ pub fn is_numbered(submarket_before: u64, number_before: u64, submarket: u64, nu
 }
 
 // 5 to 8 of a row, after the row before.
-pub fn row_number(submarket_before: u64, number_before: u64, plant: Plant) -> u64
-    ensures { result ≡ row_number submarket_before number_before plant }
+#[tactic(auto, unfolding(crate::specs::Questions::row_number, lists::specs::Questions::first_no))]
+pub fn ask_row(submarket_before: u64, number_before: u64, plant: Plant) -> Result<(), Refusal>
+    ensures { number result ≡ row_number submarket_before number_before plant }
 {
     let submarket = plant.submarket;
-    if !is_placed(submarket_before, submarket) {
-        return 5;
-    }
-    if !is_numbered(submarket_before, number_before, submarket, plant.number) {
-        return 6;
-    }
-    if 1000000000000 < plant.guarantee {
-        return 7;
-    }
-    if 1000000 < plant.loss {
-        return 8;
-    }
-    if 1000000 < plant.availability {
-        return 8;
-    }
-    0
+    let placed = is_placed(submarket_before, submarket);
+    let numbered = is_numbered(submarket_before, number_before, submarket, plant.number);
+    ask(placed, Refusal::Submarket)?;
+    ask(numbered, Refusal::PlantNumber)?;
+    ask(plant.guarantee <= 1000000000000, Refusal::Guarantee)?;
+    ask(
+        plant.loss <= 1000000 && plant.availability <= 1000000,
+        Refusal::Factor,
+    )
 }
 
-// 5 to 8, going down the n rows that the plant table's columns hold.
-pub fn rows_number(n: usize, columns: &[u64]) -> u64
-    requires { (n ≤ 512) × (table_places ≤ length columns.now) }
-    ensures { result ≡ rows_number 0 0 (rows_of n columns.now) }
+// 5 to 8, going down the rows.
+#[tactic(auto, using(refusals::proofs::Asking::asking, crate::proofs::Rows::rows))]
+pub fn ask_rows(plants: &[Plant]) -> Result<(), Refusal>
+    ensures { number result ≡ rows_number 0 0 plants.now }
 {
     let mut submarket_before: u64 = 0;
     let mut number_before: u64 = 0;
-    let mut i: usize = 0;
-    while i < n {
-        let plant = records::row_at(columns, i);
-        let no = row_number(submarket_before, number_before, plant);
-        if no != 0 {
-            return no;
-        }
+    for plant in plants {
+        ask_row(submarket_before, number_before, *plant)?;
         submarket_before = plant.submarket;
         number_before = plant.number;
-        i += 1;
     }
-    0
+    Ok(())
 }
 
-// 11: ledger lists of exactly 4P and 2P, for P in limits.
-pub fn lengths_number(plants: u64, allotted: &[u64], accounts: &[i64]) -> u64
-    requires { plants ≤ 512 }
-    ensures { result ≡ lengths_number plants (record { allotted = allotted.now; accounts = accounts.now }) }
+// 11: ledger lists of exactly 4P and 2P. A P of which these pass 64 bits is answered no.
+#[tactic(auto, unfolding(crate::specs::Questions::lengths_number, lists::specs::Questions::first_no))]
+pub fn ask_lengths(plants: u64, allotted: &[u64], accounts: &[i64]) -> Result<(), Refusal>
+    ensures { number result ≡ lengths_number plants (record { allotted = allotted.now; accounts = accounts.now }) }
 {
-    if allotted.len() as u64 != 4 * plants {
-        return 11;
-    }
-    if accounts.len() as u64 != 2 * plants {
-        return 11;
-    }
-    0
+    ask(
+        plants.checked_mul(4) == Some(allotted.len() as u64)
+            && plants.checked_mul(2) == Some(accounts.len() as u64),
+        Refusal::LedgerLength,
+    )
 }
 
 // 11, then 19: every figure of the ledger at hand inside its bound.
-pub fn ledger_number(plants: u64, allotted: &[u64], accounts: &[i64]) -> u64
-    requires { plants ≤ 512 }
-    ensures { result ≡ ledger_number plants (record { allotted = allotted.now; accounts = accounts.now }) }
+#[tactic(auto, using(refusals::proofs::Asking::asking), unfolding(crate::specs::Questions::ledger_number, lists::specs::Questions::first_no))]
+pub fn ask_ledger(plants: u64, allotted: &[u64], accounts: &[i64]) -> Result<(), Refusal>
+    ensures { number result ≡ ledger_number plants (record { allotted = allotted.now; accounts = accounts.now }) }
 {
-    let no = lengths_number(plants, allotted, accounts);
-    if no != 0 {
-        return no;
-    }
-    if !ledger::in_bounds(allotted, accounts) {
-        return 19;
-    }
-    0
+    ask_lengths(plants, allotted, accounts)?;
+    ask(ledger::in_bounds(allotted, accounts), Refusal::LedgerBound)
 }
 
-// 5 to 11 of n rows, for P and H in limits.
-pub fn tables_number(
+// 5 to 11 of these rows.
+#[tactic(auto, using(refusals::proofs::Asking::asking, crate::proofs::Last::last), unfolding(crate::specs::Questions::tables_number, lists::specs::Questions::first_no))]
+pub fn ask_tables(
     plants: u64,
-    n: usize,
-    columns: &[u64],
+    rows: &[Plant],
     profile: &[u64],
     allotted: &[u64],
     accounts: &[i64],
-) -> u64
-    requires { (n ≤ 512) × (table_places ≤ length columns.now) × (plants ≤ 512) × (length profile.now ≤ 744) }
-    ensures { result ≡ tables_number plants (rows_of n columns.now) profile.now (record { allotted = allotted.now; accounts = accounts.now }) }
+) -> Result<(), Refusal>
+    ensures { number result ≡ tables_number plants rows.now profile.now (record { allotted = allotted.now; accounts = accounts.now }) }
 {
-    let no = rows_number(n, columns);
-    if no != 0 {
-        return no;
-    }
-    if !lists::at_most(MOST, profile) {
-        return 9;
-    }
-    if lists::sum_of(profile) == 0 {
-        return 10;
-    }
-    lengths_number(plants, allotted, accounts)
+    ask_rows(rows)?;
+    ask(lists::at_most(MOST, profile), Refusal::ProfileFigure)?;
+    ask(0 < lists::sum_of(profile), Refusal::ProfileSum)?;
+    ask_lengths(plants, allotted, accounts)
 }

@@ -1,9 +1,7 @@
 // The month file for C.
 ghost use Rattle.std.specs.Prelude.{◌≡◌};
-ghost use Rattle.file_lines.specs.State.{kept, at_start};
-ghost use Rattle.month_file.specs.Run.{place};
-ghost use Rattle.file_calls.specs.Checking.{FinishedAny};
-ghost use Rattle.kept_file.specs.Files.{file_of, kept_file_of, FileFed};
+ghost use Rattle.file_lines.specs.State.{at_start};
+ghost use Rattle.kept_file.specs.Files.{kept_file_of, kept_lists, FileFed, FileFinished};
 
 use file_calls::FinishAnswer;
 use kept_file::{KeptFed, KeptFile};
@@ -27,7 +25,7 @@ pub extern "C" fn iolwarch_file_feed(
     allotted: &mut [u64],
     accounts: &mut [i64],
 ) -> KeptFed
-    ensures { FileFed file (kept columns.old profile.old allotted.old accounts.old) line.old part.now result (kept columns.new profile.new allotted.new accounts.new) line.new }
+    ensures { FileFed file (kept_lists columns.old profile.old allotted.old accounts.old) line.old part.now result (kept_lists columns.new profile.new allotted.new accounts.new) line.new }
 {
     kept_file::feed_kept(file, part, line, columns, profile, allotted, accounts)
 }
@@ -43,7 +41,7 @@ pub extern "C" fn iolwarch_file_finish(
     accounts: &[i64],
     text: &mut [u8],
 ) -> FinishAnswer
-    ensures { FinishedAny (place (file_of file) (kept columns.now profile.now allotted.now accounts.now) line.now) text.old result text.new }
+    ensures { FileFinished file (kept_lists columns.now profile.now allotted.now accounts.now) line.now text.old result text.new }
 {
     kept_file::finish_kept(file, line, columns, profile, allotted, accounts, text)
 }

@@ -6,6 +6,7 @@ ghost use Rattle.std.specs.Prelude.{◌≡◌};
 ghost use Rattle.sharing.specs.Calls.{Shared, sharing_call};
 ghost use Rattle.transfer.specs.Calls.{transfer_call};
 
+use refusals::number_of;
 use transfer::Transferred;
 
 pub mod files;
@@ -17,7 +18,7 @@ pub mod reading;
 pub extern "C" fn iolwarch_share(total: u64, weights: &[u64], parts: &mut [u64]) -> u64
     ensures { ◌≡◌ {A = Shared} (record { number = result; parts = parts.new }) (sharing_call total weights.now parts.old) }
 {
-    sharing::share(total, weights, parts)
+    number_of(sharing::share(total, weights, parts))
 }
 
 // One figure for each of submarkets 1 to 4. C passes no array by value.
@@ -34,5 +35,5 @@ pub extern "C" fn iolwarch_transfer(left: BySubmarket, need: BySubmarket) -> Tra
 {
     let left = left.kwh;
     let need = need.kwh;
-    transfer::transfer(left, need)
+    Transferred::from(transfer::transfer(left, need))
 }

@@ -2,11 +2,12 @@
 ghost use Rattle.std.specs.Prelude.{◌≡◌};
 ghost use Rattle.kept_month.specs.Months.{OpenKeptEnd, open_kept, SettleKeptEnd, settle_kept, close_kept, balance_kept, StatementKeptEnd, statement_kept, SizeKept};
 
-use hour::Plant;
 use kept_month::{
-    KeptBalance, KeptEnd, KeptMonth, KeptSettle, KeptSized, KeptStated, ended_kept, month_of,
-    settled_kept, sized_kept, stated_kept,
+    KeptBalance, KeptEnd, KeptMonth, KeptSettle, KeptSized, KeptStated, ended_kept, settled_kept,
+    sized_kept, stated_kept,
 };
+use month::Month;
+use plants::Plant;
 
 // Month::open.
 #[unsafe(no_mangle)]
@@ -20,9 +21,9 @@ pub extern "C" fn iolwarch_open(
 ) -> KeptEnd
     ensures { ◌≡◌ {A = OpenKeptEnd} (record { answer = result; ledger = record { allotted = allotted.new; accounts = accounts.new } }) (open_kept month plants.now profile.now tariff (record { allotted = allotted.old; accounts = accounts.old })) }
 {
-    let meant = month_of(month);
-    let opened = meant.open(plants, profile, tariff, allotted, accounts);
-    ended_kept(month, opened)
+    let mut after = Month::from(month);
+    let answer = after.open(plants, profile, tariff, allotted, accounts);
+    ended_kept(month, after, answer)
 }
 
 // Month::settle.
@@ -38,9 +39,9 @@ pub extern "C" fn iolwarch_settle(
 ) -> KeptSettle
     ensures { ◌≡◌ {A = SettleKeptEnd} (record { answer = result; allotment = allotment.new; ledger = record { allotted = allotted.new; accounts = accounts.new } }) (settle_kept month plants.now profile.now metered.now allotment.old (record { allotted = allotted.old; accounts = accounts.old })) }
 {
-    let meant = month_of(month);
-    let settled = meant.settle(plants, profile, metered, allotment, allotted, accounts);
-    settled_kept(month, settled)
+    let mut after = Month::from(month);
+    let answer = after.settle(plants, profile, metered, allotment, allotted, accounts);
+    settled_kept(month, after, answer)
 }
 
 // kept_month::close_kept.
@@ -74,9 +75,8 @@ pub extern "C" fn iolwarch_statement(
 ) -> KeptStated
     ensures { ◌≡◌ {A = StatementKeptEnd} (record { answer = result; bytes = bytes.new }) (statement_kept month plants.now (record { allotted = allotted.now; accounts = accounts.now }) bytes.old) }
 {
-    let meant = month_of(month);
-    let stated = meant.statement(plants, allotted, accounts, bytes);
-    stated_kept(month, stated)
+    let meant = Month::from(month);
+    stated_kept(month, meant.statement(plants, allotted, accounts, bytes))
 }
 
 // Month::statement_size.
@@ -89,7 +89,6 @@ pub extern "C" fn iolwarch_statement_size(
 ) -> KeptSized
     ensures { SizeKept month plants.now (record { allotted = allotted.now; accounts = accounts.now }) result }
 {
-    let meant = month_of(month);
-    let sized = meant.statement_size(plants, allotted, accounts);
-    sized_kept(month, sized)
+    let meant = Month::from(month);
+    sized_kept(month, meant.statement_size(plants, allotted, accounts))
 }

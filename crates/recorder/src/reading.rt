@@ -11,7 +11,7 @@ use places::FieldPlace;
 pub extern "C" fn iolwarch_read_line(line: &[u8], figures: &mut [u64]) -> Line
     ensures { ◌≡◌ {A = ReadEnd} (record { answer = result; figures = figures.new }) (read_call line.now figures.old) }
 {
-    lines::reading::read_line(line, figures)
+    Line::from(lines::reading::read_line(line, figures))
 }
 
 // places::field_place.

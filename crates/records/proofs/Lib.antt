@@ -1,3 +1,2 @@
--- Laws of the copying loop and of the columns that it fills.
-pub mod Copied
-pub mod Figures
+-- Laws of the rows that columns hold.
+pub mod Rows

@@ -1,2 +1,3 @@
--- The plant table as records, and the columns that they are copied to.
+-- The plant table as five columns, and as rows.
 pub mod Records
+pub mod Laws

@@ -1,17 +1,12 @@
--- "The opening call takes the plant table as one lent list of plant records": the records, and five columns of 512 places each (P is at most
--- 512) that hold their figures, one column after another. Assumes nothing.
-use Rattle.std.specs.Prelude.{◌≡◌, ℕ, ◌+◌, ◌*◌, ◌<◌, List, [], ◌∷◌, length, get_or, set, take, drop}
+-- The plant table as C lends it to a month file's calls: five columns of 512 places each (P is at most 512), one column after another, and the rows
+-- that they hold. Assumes nothing.
+use Rattle.std.specs.Prelude.{ℕ, ◌+◌, ◌*◌, List, [], ◌∷◌, get_or, set}
 use Rattle.lists.specs.Lists.{table}
-use Rattle.hour.specs.declared.Plant.{Plant}
-use Rattle.hour.specs.Table.{none}
+use Rattle.plants.specs.declared.Plant.{Plant}
 
 -- the places of the five columns
 abbrev pub table_places : ℕ
 table_places = 5 * 512
-
--- n figures of column k, counted from 0 in the order of a P line
-unfoldable pub column_of : ℕ → ℕ → List ℕ → List ℕ
-column_of k n c = take n (drop (512 * k) c)
 
 -- the record at place i of the columns
 unfoldable pub row_at : List ℕ → ℕ → Plant
@@ -27,11 +22,6 @@ row_at c i =
 -- the plant table that the columns hold, of n rows
 unfoldable pub rows_of : ℕ → List ℕ → List Plant
 rows_of n c = table n (row_at c)
-
--- the columns c hold the n records ps, as many of them as they have places for
-pub record Held (ps : List Plant) (n : ℕ) (c : List ℕ) : Type 0 where
-  pub count : n ≡ length ps
-  pub rows : (i : ℕ) → i < n → i < 512 → row_at c i ≡ get_or ps i none
 
 -- the columns with the record p at place i
 unfoldable pub put_row : List ℕ → ℕ → Plant → List ℕ

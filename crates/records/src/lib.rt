@@ -1,13 +1,13 @@
-// The plant table as one lent list of plant records (document 01, 'Plants, profile, ledger'), copied to five columns of 512 places.
-#![tactic(auto)]
+// The plant table as C lends it to a month file's calls: five columns of 512 places, read as rows and written back.
+#![tactic(auto, unfolding(crate::specs::Records::put_row, crate::specs::Records::row_at))]
 
-ghost use Rattle.std.specs.Prelude.{◌≡◌, ◌<◌, ◌≤◌, min, length, take};
-ghost use Rattle.records.specs.Records.{column_of, Held, put_row, put_rows, row_at, table_places};
+ghost use Rattle.std.specs.Prelude.{◌≡◌, ◌<◌, ◌≤◌, length};
+ghost use Rattle.records.specs.Records.{put_row, put_rows, row_at, rows_of, table_places};
 
-use hour::Plant;
 use lists::PLANTS;
+use plants::Plant;
 
-// Where the columns begin, after the submarkets; and the places of all five.
+// Where the columns begin, after the submarkets; and the places of all five. The C interface needs them: it lends the table as one list.
 const NUMBERS: usize = PLANTS;
 
 const GUARANTEES: usize = 2 * PLANTS;
@@ -18,8 +18,17 @@ const AVAILABILITIES: usize = 4 * PLANTS;
 
 pub const COLUMNS: usize = 5 * PLANTS;
 
+// What stands in a place before its row is read.
+const NONE: Plant = Plant {
+    submarket: 0,
+    number: 0,
+    guarantee: 0,
+    loss: 0,
+    availability: 0,
+};
+
 // Writes a record to place i of the five columns.
-pub fn put_row(columns: &mut [u64], i: usize, plant: Plant)
+fn put_row(columns: &mut [u64], i: usize, plant: Plant)
     requires { (table_places ≤ length columns.old) × (i < 512) }
     ensures { columns.new ≡ put_row columns.old i plant }
 {
@@ -31,7 +40,7 @@ pub fn put_row(columns: &mut [u64], i: usize, plant: Plant)
 }
 
 // The record at place i of the five columns.
-pub fn row_at(columns: &[u64], i: usize) -> Plant
+fn row_at(columns: &[u64], i: usize) -> Plant
     requires { (table_places ≤ length columns.now) × (i < 512) }
     ensures { result ≡ row_at columns.now i }
 {
@@ -44,41 +53,24 @@ pub fn row_at(columns: &[u64], i: usize) -> Plant
     }
 }
 
-// Writes the first n records to the five columns.
-pub fn copy_rows(plants: &[Plant], n: usize, columns: &mut [u64])
-    requires { (table_places ≤ length columns.old) × (n ≤ 512) × (n ≤ length plants.now) }
-    ensures { columns.new ≡ put_rows columns.old 0 (take n plants.now) }
+// The rows that the columns hold.
+pub fn plants_of(columns: &[u64]) -> [Plant; PLANTS]
+    requires { table_places ≤ length columns.now }
+    ensures { result ≡ rows_of 512 columns.now }
 {
-    let mut i: usize = 0;
-    while i < n {
-        put_row(columns, i, plants[i]);
-        i += 1;
+    let mut plants = [NONE; PLANTS];
+    for (i, plant) in plants.iter_mut().enumerate() {
+        *plant = row_at(columns, i);
     }
+    plants
 }
 
-// As many records as a column has places for.
-pub fn capped(n: usize) -> usize
-    ensures { result ≡ min n 512 }
+// Writes the rows to the columns, from the first place on.
+pub fn put_plants(columns: &mut [u64], plants: &[Plant])
+    requires { (table_places ≤ length columns.old) × (length plants.now ≤ 512) }
+    ensures { columns.new ≡ put_rows columns.old 0 plants.now }
 {
-    if n < PLANTS { n } else { PLANTS }
-}
-
-// The columns of the first 512 records.
-pub fn columns(plants: &[Plant]) -> [u64; COLUMNS]
-    ensures { Held plants.now (length plants.now) result }
-{
-    let n = capped(plants.len());
-    let mut c = [0u64; COLUMNS];
-    copy_rows(plants, n, &mut c);
-    c
-}
-
-// The first n figures of column k, counted from 0.
-pub fn column(columns: &[u64], k: usize, n: usize) -> &[u64]
-    requires { (table_places ≤ length columns.now) × (k < 5) × (n ≤ 512) }
-    ensures { (result.now ≡ column_of k n columns.now) × (length result.now ≡ n) }
-{
-    let first = PLANTS * k;
-    let end = first + n;
-    &columns[first..end]
+    for (i, plant) in plants.iter().enumerate() {
+        put_row(columns, i, *plant);
+    }
 }

@@ -1,4 +1,4 @@
--- Steps 3 and 7 on columns, by a rule of sharing. Assumes nothing.
+-- Steps 3 and 7 on lists of figures, one for each plant, by a rule of sharing. Assumes nothing.
 use Rattle.std.specs.Prelude.{ℕ, cond, List, leb, eqb}
 use Rattle.lists.specs.Lists.{sum}
 use Rattle.sharing.specs.Sharing.{Rule}

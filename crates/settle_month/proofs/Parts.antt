@@ -8,6 +8,7 @@ use lib.ListN.{length}
 use Rattle.std.proofs.Common.{append_assoc, append-nil}
 use Rattle.std.proofs.KnownBytes.{Consumes-nil, Consumes-trans, Consumes-whole}
 use Rattle.std.specs.Io.KnownBytes.{Consumes}
+use Rattle.std.specs.Prelude.{Some}
 use Rattle.std.specs.declared.option.Option.{Option}
 use Rattle.statement.specs.Writing.{Fills}
 use Rattle.file_lines.specs.declared.MonthFile.{MonthFile}
@@ -80,7 +81,7 @@ module _ {had left : Option (List ℕ)} {room : ℕ} {whole : Bool} {f₀ : Mont
   taken-valid = (run.promised).valid s t.fed
 
   pub taken-written : whole ≡ true → {before : List ℕ} {n : ℕ} {after : List ℕ} → Fills (finished (reading_of f k line)) before n after
-      → Settled had room before n after
-  taken-written w h =
-      written t.parts (λ r. Consumes-whole had left (flatten t.parts) (λ xs. flatten t.parts ≡ xs) t.given (t.ended w r) refl)
+      → Settled had room before (Some n) after
+  taken-written w {n = n} h =
+      written n refl t.parts (λ r. Consumes-whole had left (flatten t.parts) (λ xs. flatten t.parts ≡ xs) t.given (t.ended w r) refl)
       ((run.promised).written s t.fed h)

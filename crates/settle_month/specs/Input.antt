@@ -1,7 +1,7 @@
 -- What the program makes of the bytes that a reader gives. Where the reader says which these are (a slice does), the parts that are fed are its bytes, each
 -- once and in their order. Which bytes standard input holds no contract says, nor that it is at its end: `read` alone knows. What is printed is what the
 -- file's definition prints for the bytes that were fed. Assumes nothing.
-use Rattle.std.specs.Prelude.{◌≡◌, ◌<◌, ℕ, Bool, true, IfSome}
+use Rattle.std.specs.Prelude.{◌≡◌, ◌<◌, ℕ, Bool, true, IfSome, Some, None}
 use Rattle.std.specs.Io.KnownBytes.{Consumes, IsAtEnd}
 use Rattle.std.specs.declared.option.Option.{Option}
 use mathlib.Core.List.{List, flatten}
@@ -21,8 +21,8 @@ pub record Taken (old new : Option (List ℕ)) (room : ℕ) (whole : Bool) (a b 
 abbrev pub AreAll : Option (List ℕ) → ℕ → List ℕ → Type 0
 AreAll had room bytes = 0 < room → IfSome had (λ xs. bytes ≡ xs)
 
--- nothing was written, and 0 answered; or the text of some parts' bytes, all that the reader had, stands at the front, and its length is answered
-pub data Settled (had : Option (List ℕ)) (room : ℕ) (before : List ℕ) (answer : ℕ) (after : List ℕ) : Type 0 where
-  unread : answer ≡ 0 → after ≡ before → Settled had room before answer after
-  written : (parts : List (List ℕ)) → AreAll had room (flatten parts) → Fills (settled_file (flatten parts)) before answer after
+-- nothing was written, and none is answered; or the text of some parts' bytes, all that the reader had, stands at the front, and its length is answered
+pub data Settled (had : Option (List ℕ)) (room : ℕ) (before : List ℕ) (answer : Option ℕ) (after : List ℕ) : Type 0 where
+  unread : answer ≡ None → after ≡ before → Settled had room before answer after
+  written : (n : ℕ) → answer ≡ Some n → (parts : List (List ℕ)) → AreAll had room (flatten parts) → Fills (settled_file (flatten parts)) before n after
       → Settled had room before answer after

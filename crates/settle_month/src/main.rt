@@ -2,7 +2,7 @@
 // and its statement'). All that it keeps lies in arrays of `main`.
 #![tactic(auto)]
 
-ghost use Rattle.std.specs.Prelude.{◌≡◌, ◌≤◌, true, length, take};
+ghost use Rattle.std.specs.Prelude.{◌≡◌, ◌≤◌, true, IfSome, length, take};
 ghost use Rattle.std.specs.Io.KnownBytes.{Appends};
 ghost use Rattle.lines.specs.Fields.{longest};
 ghost use Rattle.statement.specs.Statement.{room_for};
@@ -18,15 +18,8 @@ use lines::fields::LONGEST;
 use lists::{PERIODS, PLANTS};
 use month_file::feeding::feed;
 use month_file::finishing::finish;
-use records::COLUMNS;
+use plants::Plant;
 use std::io::{Read, Write};
-
-// What was read: the state, and whether the input came to its end.
-#[derive(Clone, Copy)]
-struct Input {
-    file: MonthFile,
-    whole: bool,
-}
 
 // Feeds the bytes that a read put at the front of the part: all that it answered, and once.
 fn take_part(
@@ -34,82 +27,69 @@ fn take_part(
     part: &[u8],
     got: usize,
     line: &mut [u8],
-    columns: &mut [u64],
+    plants: &mut [Plant],
     profile: &mut [u64],
     allotted: &mut [u64],
     accounts: &mut [i64],
 ) -> MonthFile
     requires longest_in_bounds { longest ≤ length line.old }
-    requires valid { Valid file (kept columns.old profile.old allotted.old accounts.old) }
-    ensures { Fed file (kept columns.old profile.old allotted.old accounts.old) line.old (take got part.now) result (kept columns.new profile.new allotted.new accounts.new) line.new }
+    requires valid { Valid file (kept plants.old profile.old allotted.old accounts.old) }
+    ensures { Fed file (kept plants.old profile.old allotted.old accounts.old) line.old (take got part.now) result (kept plants.new profile.new allotted.new accounts.new) line.new }
 {
     let n = got.min(part.len());
-    feed(file, &part[..n], line, columns, profile, allotted, accounts)
+    feed(file, &part[..n], line, plants, profile, allotted, accounts)
 }
 
-// Feeds what the input holds, part by part, to its end. Where the reader says what it gives, these are its bytes, each once, and all of them where
-// `whole` is true. Standard input says nothing: `read` alone knows of its end. Nothing says that an input ends, so the turns are counted down, from a
+// Feeds what the input holds, part by part, to its end; none where it cannot be read to it. Where the reader says what it gives, these are its bytes, all
+// of them, and each once. Standard input says nothing: `read` alone knows of its end. Nothing says that an input ends, so the turns are counted, up to a
 // number that no run uses up.
 fn take_input<R: Read>(
     input: &mut R,
     file: MonthFile,
     part: &mut [u8],
     line: &mut [u8],
-    columns: &mut [u64],
+    plants: &mut [Plant],
     profile: &mut [u64],
     allotted: &mut [u64],
     accounts: &mut [i64],
-) -> Input
+) -> Option<MonthFile>
     requires longest_in_bounds { longest ≤ length line.old }
-    requires valid { Valid file (kept columns.old profile.old allotted.old accounts.old) }
-    ensures { Taken (R.remaining input.old) (R.remaining input.new) (length part.old) result.whole (place file (kept columns.old profile.old allotted.old accounts.old) line.old) (place result.file (kept columns.new profile.new allotted.new accounts.new) line.new) }
+    requires valid { Valid file (kept plants.old profile.old allotted.old accounts.old) }
+    ensures { IfSome result (λ end. Taken (R.remaining input.old) (R.remaining input.new) (length part.old) true (place file (kept plants.old profile.old allotted.old accounts.old) line.old) (place end (kept plants.new profile.new allotted.new accounts.new) line.new)) }
 {
     let mut file = file;
-    let mut turns = u64::MAX;
-    while turns > 0 {
-        let got = match input.read(part) {
-            Ok(got) => got,
-            Err(_) => {
-                let whole = false;
-                return Input { file, whole };
-            }
-        };
-        if got == 0 {
-            let whole = true;
-            return Input { file, whole };
+    for _ in 0..u64::MAX {
+        match input.read(part) {
+            Ok(0) => return Some(file),
+            Ok(got) => file = take_part(file, part, got, line, plants, profile, allotted, accounts),
+            Err(_) => return None,
         }
-        file = take_part(file, part, got, line, columns, profile, allotted, accounts);
-        turns -= 1;
     }
-    let whole = false;
-    Input { file, whole }
+    None
 }
 
-// Settles the file that the input holds: what is to be printed stands at the front of the text. Answers its length, or 0 where the input cannot be
-// read to its end.
+// Settles the file that the input holds: what is to be printed stands at the front of the text. Answers its length; none, and nothing is written, where
+// the input cannot be read to its end.
 fn settle_input<R: Read>(
     input: &mut R,
     part: &mut [u8],
     line: &mut [u8],
-    columns: &mut [u64],
+    plants: &mut [Plant],
     profile: &mut [u64],
     allotted: &mut [u64],
     accounts: &mut [i64],
     text: &mut [u8],
-) -> usize
+) -> Option<usize>
     requires longest_in_bounds { (longest ≤ length line.old) × (room_for 512 ≤ length text.old) }
-    requires lent { Lent (kept columns.old profile.old allotted.old accounts.old) }
+    requires lent { Lent (kept plants.old profile.old allotted.old accounts.old) }
     ensures { Settled (R.remaining input.old) (length part.old) text.old result text.new }
 {
     let file = fresh();
-    let taken = take_input(
-        input, file, part, line, columns, profile, allotted, accounts,
-    );
-    if !taken.whole {
-        return 0;
-    }
-    let end = taken.file;
-    finish(end, line, columns, profile, allotted, accounts, text)
+    let Some(end) = take_input(input, file, part, line, plants, profile, allotted, accounts) else {
+        return None;
+    };
+    let length = finish(end, line, plants, profile, allotted, accounts, text);
+    Some(length)
 }
 
 // Writes all of the bytes, or answers no.
@@ -124,28 +104,34 @@ fn tell(rt: &HostRuntime, line: &[u8]) {
     wrote(&mut rt.stderr(), line);
 }
 
+#[tactic(auto, unfolding(statement::specs::Statement::room_for))]
 fn main(rt: HostRuntime) {
     let mut part = [0u8; 65536];
     let mut line = [0u8; LONGEST];
-    let mut columns = [0u64; COLUMNS];
+    let mut plants = [Plant {
+        submarket: 0,
+        number: 0,
+        guarantee: 0,
+        loss: 0,
+        availability: 0,
+    }; PLANTS];
     let mut profile = [0u64; PERIODS];
     let mut allotted = [0u64; ALLOTTED * PLANTS];
     let mut accounts = [0i64; ACCOUNTS * PLANTS];
     let mut text = [0u8; 128 * PLANTS + 128];
-    let length = settle_input(
+    let Some(length) = settle_input(
         &mut rt.stdin(),
         &mut part,
         &mut line,
-        &mut columns,
+        &mut plants,
         &mut profile,
         &mut allotted,
         &mut accounts,
         &mut text,
-    );
-    if length == 0 {
+    ) else {
         tell(&rt, b"settle-month: standard input cannot be read\n");
         return;
-    }
+    };
     if !wrote(&mut rt.stdout(), &text[..length]) {
         tell(&rt, b"settle-month: standard output cannot be written\n");
     }

@@ -4,9 +4,11 @@
 ghost use Rattle.std.specs.Prelude.{◌≡◌, ◌++◌, ◌^◌, ◌≤◌, ◌<◌, length, drop};
 ghost use Rattle.lists.specs.Lists.{sum};
 ghost use Rattle.sharing.specs.Sharing.{share};
+ghost use Rattle.refusals.specs.Numbers.{number};
 ghost use Rattle.sharing.specs.Calls.{Shared, sharing_call};
 
 use lists::LIMIT;
+use refusals::{Refusal, ask};
 
 // Shares t over the weights, whose sum is w, into the front of parts. The rest of parts stays.
 pub fn share_into(t: u64, w: u64, weights: &[u64], parts: &mut [u64])
@@ -16,35 +18,26 @@ pub fn share_into(t: u64, w: u64, weights: &[u64], parts: &mut [u64])
 {
     let mut c: u64 = 0;
     let mut before: u64 = 0;
-    let mut i: usize = 0;
-    while i < weights.len() {
-        c = c + weights[i];
+    // by index: of what a loop over a zip of `iter_mut` wrote, nothing is known after it
+    for (i, weight) in weights.iter().enumerate() {
+        c += *weight;
         let up_to = wide::mul_div(t, c, w);
         parts[i] = up_to - before;
         before = up_to;
-        i = i + 1;
     }
 }
 
-// Sharing, with the questions put. The answer is the number: 0 where the parts are written, else parts stays as it was.
-pub fn share(total: u64, weights: &[u64], parts: &mut [u64]) -> u64
-    ensures { ◌≡◌ {A = Shared} (record { number = result; parts = parts.new }) (sharing_call total weights.now parts.old) }
+// Sharing, with the questions put: an Ok where the parts are written, else parts stays as it was.
+#[tactic(auto, unfolding(crate::specs::Calls::sharing_call, crate::specs::Calls::sharing_number, lists::specs::Questions::first_no, lists::specs::Questions::outcome))]
+pub fn share(total: u64, weights: &[u64], parts: &mut [u64]) -> Result<(), Refusal>
+    ensures { ◌≡◌ {A = Shared} (record { number = number result; parts = parts.new }) (sharing_call total weights.now parts.old) }
 {
-    if weights.len() != parts.len() {
-        return 24;
-    }
     let w = lists::sum_of(weights);
-    if w >= LIMIT {
-        return 24;
-    }
-    if total >= LIMIT {
-        return 24;
-    }
-    if total > 0 {
-        if w == 0 {
-            return 25;
-        }
-    }
+    ask(
+        weights.len() == parts.len() && w < LIMIT && total < LIMIT,
+        Refusal::Weights,
+    )?;
+    ask(total == 0 || w > 0, Refusal::NoWeight)?;
     share_into(total, w, weights, parts);
-    0
+    Ok(())
 }

@@ -31,10 +31,11 @@ pub fn times(x: i64, t: u64) -> i64
 }
 
 // Is a figure within a bound of zero?
+#[tactic(auto, unfolding(crate::specs::Figures::is_within))]
 pub fn is_within(bound: u64, x: i64) -> bool
     ensures { result ≡ is_within bound x }
 {
-    magnitude(x) <= bound
+    x.unsigned_abs() <= bound
 }
 
 // A figure of a list, added to.
@@ -49,8 +50,5 @@ pub fn add_at(figures: &mut [i64], at: usize, x: i64)
 pub fn magnitude(z: i64) -> u64
     ensures { result ≡ nat_abs z }
 {
-    if z < 0 {
-        return (0 - (z + 1)) as u64 + 1;
-    }
-    z as u64
+    z.unsigned_abs()
 }

@@ -15,9 +15,7 @@ use Rattle.lists.proofs.Parts.{take-le}
 use Rattle.figures.specs.Figures.{figure_length}
 use Rattle.figures.proofs.Decimal.{length-le, length-small}
 use Rattle.figures.proofs.Signs.{signed_length-le}
-use Rattle.hour.specs.declared.Plant.{Plant}
-use Rattle.hour.specs.Table.{plants_of}
-use Rattle.hour.proofs.Table.{length-plants}
+use Rattle.plants.specs.declared.Plant.{Plant}
 use Rattle.ledger.specs.Ledger.{Ledger, allotted_in, in_bounds, kwh_bound, money_bound}
 use Rattle.ledger.proofs.Bounds.{bounded, column-small}
 use Rattle.statement.specs.Statement.{room_for}
@@ -40,7 +38,7 @@ module _ (l : Ledger) (e : in_bounds l ≡ true) (k : length l.allotted ≤ 2048
       omega arith
 
 -- what `ledger::column_sums` asks, and that the sum of its answer fits
-module _ {ss ns : List ℕ} {l : Ledger} (ok : Stateable ss ns l) where
+module _ {plants : List Plant} {l : Ledger} (ok : Stateable plants l) where
   pub sums-asked : (length l.allotted ≤ 2048) × Within l.allotted kwh_bound
   sums-asked = (omega (arith, ok.few, ok.even.figures), (bounded l ok.bounded).allotted)
 
@@ -108,18 +106,6 @@ promised =
       columns = text-columns;
     }
 
--- what `write_statement` asks, of a table of five columns within limits
-pub callable : (settled : ℕ) (ss ns gs ls vs : List ℕ) (l : Ledger) → length ns ≡ length ss → InLimits settled (plants_of ss ns gs ls vs) l
-    → Stateable ss ns l × (statement_length settled (plants_of ss ns [] [] []) l ≤ room_for (length ss))
-callable settled ss ns gs ls vs l e ok =
-    let rows : length (plants_of ss ns gs ls vs) ≡ length ss = length-plants ss ns gs ls vs in
-    let same : statement_length settled (plants_of ss ns gs ls vs) l ≡ statement_length settled (plants_of ss ns [] [] []) l =
-    sym (length-statement settled (plants_of ss ns gs ls vs) l) ∙ ap length (text-columns settled ss ns gs ls vs l)
-    ∙ length-statement settled (plants_of ss ns [] [] []) l in (
-      record {
-        even = record { numbers = e; figures = ok.figures ∙ ap (λ (n : ℕ). 4 * n) rows; nets = ok.nets ∙ ap (λ (n : ℕ). 2 * n) rows };
-        few = omega (arith, ok.few);
-        bounded = ok.bounded;
-      },
-      omega (arith, length-low settled (plants_of ss ns gs ls vs) l ok, ap room_for rows),
-    )
+-- what `write_statement` asks, within limits
+pub callable : (settled : ℕ) (plants : List Plant) (l : Ledger) → InLimits settled plants l → Stateable plants l × (statement_length settled plants l ≤ room_for (length plants))
+callable settled plants l ok = (record { even = record { figures = ok.figures; nets = ok.nets }; few = ok.few; bounded = ok.bounded }, length-low settled plants l ok)

@@ -1,22 +1,22 @@
 -- Laws of the statement's text: its lines field by field, and how long they are. Assumes nothing.
 use mathlib.Core.Path.{◌≡◌, refl, sym, ap, ap₂, ◌∙◌}
 use mathlib.Core.List.{List, [], ◌∷◌, ◌++◌, map, append_assoc}
-use Prim.Native.Nat.{ℕ, ◌+◌, ◌-◌, ◌*◌, ◌≤◌, ◌<◌}
-use native.Mathlib.Numerals.{add-one}
+use Prim.Native.Nat.{ℕ, suc, ◌+◌, ◌-◌, ◌*◌, ◌≤◌, ◌<◌}
+use native.Mathlib.Nat.{add-zero}
 use native.Mathlib.Omega.{arith}
 use lib.IntN.{ℤ, pos}
 use lib.ListN.{length, take, drop, get_or, length-append, drop_of_length-le}
 use lib.Seq.{drop-drop, get_or-drop}
 use Rattle.lists.specs.Lists.{sum}
 use Rattle.lists.specs.Columns.{four}
-use Rattle.lists.proofs.Loops.{rest_more, rest-none, at_drop}
+use Rattle.lists.proofs.Loops.{rest_more, rest-none, drop_more, at_drop}
 use Rattle.figures.specs.Figures.{figure, signed_figure, commas_before, by_commas, figure_length, signed_figure_length}
-use Rattle.hour.specs.declared.Plant.{Plant}
+use Rattle.plants.specs.declared.Plant.{Plant}
 use Rattle.hour.specs.Table.{plants_of}
-use Rattle.hour.proofs.Table.{length-plants, row-at}
+use Rattle.plants.specs.Plants.{none}
 use Rattle.ledger.specs.Ledger.{Ledger, allotted_in}
 use Rattle.statement.specs.Statement.{line, plant_line, plant_lines, total_line, statement_text}
-use Rattle.statement.specs.Writing.{fields_text, leading, shown, row_line}
+use Rattle.statement.specs.Writing.{fields_text, leading}
 use Rattle.statement.specs.Lengths.{fields_length, leading_length, plant_line_length, plant_lines_length, total_line_length, statement_length}
 
 -- ---- lines, field by field
@@ -52,56 +52,53 @@ total-line_is settled plants columns = line_is 84 (settled ∷ plants ∷ column
 
 -- ---- the A lines, row by row
 
-module _ (ss ns al : List ℕ) (ac : List ℤ) where
+module _ (ps : List Plant) (al : List ℕ) (ac : List ℤ) where
   -- the lines of the rows from i on
   pub lines_from : ℕ → List ℕ
-  lines_from i = plant_lines (drop i (plants_of ss ns [] [] [])) (drop (4 * i) al) (drop (2 * i) ac)
+  lines_from i = plant_lines (drop i ps) (drop (4 * i) al) (drop (2 * i) ac)
 
-  pub lines_all : plant_lines (plants_of ss ns [] [] []) al ac ≡ lines_from 0
+  pub lines_all : plant_lines ps al ac ≡ lines_from 0
   unfolding lines_from
   lines_all = refl
 
-  pub lines_more : (i : ℕ) → i < length ss → lines_from i ≡ row_line ss ns al ac i ++ lines_from (i + 1)
-  unfolding lines_from row_line plant_lines
-  lines_more i h =
-      let ps : List Plant = plants_of ss ns [] [] [] in
+  -- the line of row i, as the code lends and reads its figures, and those behind it
+  pub lines_more : (i : ℕ) {net money : ℤ} → i < length ps → net ≡ get_or ac (2 * i + 0) (pos 0) → money ≡ get_or ac (2 * i + 1) (pos 0)
+      → lines_from i ≡ plant_line (get_or ps i none) (take (4 * (i + 1) - 4 * i) (drop (4 * i) al)) net money ++ lines_from (i + 1)
+  unfolding lines_from plant_lines
+  lines_more i {net} {money} h e f =
       let four : 4 * i + 4 ≡ 4 * (i + 1) = omega arith in
       let two : 2 * i + 2 ≡ 2 * (i + 1) = omega arith in
-      ap (λ (q : List Plant). plant_lines q (drop (4 * i) al) (drop (2 * i) ac)) (row-at i ss ns [] [] [] h)
+      let part : 4 ≡ 4 * (i + 1) - 4 * i = omega arith in
+      ap (λ (q : List Plant). plant_lines q (drop (4 * i) al) (drop (2 * i) ac)) (drop_more ps i none h)
       ∙ ap₂ ◌++◌
-      (ap₂ (plant_line (shown (get_or ss i 0) (get_or ns i 0)) (take 4 (drop (4 * i) al)))
-      (at_drop ac (2 * i) (pos 0)) (get_or-drop (2 * i) ac 1 (pos 0)))
-      (ap (λ (n : ℕ). plant_lines (drop n ps) (drop 4 (drop (4 * i) al)) (drop 2 (drop (2 * i) ac))) (sym (add-one i))
-      ∙ ap₂ (plant_lines (drop (i + 1) ps)) (drop-drop 4 (4 * i) al ∙ ap (λ (n : ℕ). drop n al) four) (drop-drop 2 (2 * i) ac ∙ ap (λ (n : ℕ). drop n ac) two))
+      (ap₂ (plant_line (get_or ps i none) (take 4 (drop (4 * i) al)))
+      (at_drop ac (2 * i) (pos 0) ∙ ap (λ (n : ℕ). get_or ac n (pos 0)) (sym (add-zero (2 * i))) ∙ sym e) (get_or-drop (2 * i) ac 1 (pos 0) ∙ sym f)
+      ∙ ap (λ (n : ℕ). plant_line (get_or ps i none) (take n (drop (4 * i) al)) net money) part)
+      (ap₂ (plant_lines (drop (i + 1) ps)) (drop-drop 4 (4 * i) al ∙ ap (λ (n : ℕ). drop n al) four) (drop-drop 2 (2 * i) ac ∙ ap (λ (n : ℕ). drop n ac) two))
 
-  pub lines_none : (i : ℕ) → length ss ≤ i → lines_from i ≡ []
+  pub lines_none : (i : ℕ) → length ps ≤ i → lines_from i ≡ []
   unfolding lines_from plant_lines
-  lines_none i h =
-      let past : length (plants_of ss ns [] [] []) ≤ i = omega (arith, length-plants ss ns [] [] []) in
-      ap (λ (ps : List Plant). plant_lines ps (drop (4 * i) al) (drop (2 * i) ac)) (drop_of_length-le (plants_of ss ns [] [] []) past)
+  lines_none i h = ap (λ (ps : List Plant). plant_lines ps (drop (4 * i) al) (drop (2 * i) ac)) (drop_of_length-le ps h)
 
 -- only submarkets and numbers are shown
 lines-columns : (ss ns gs ls vs al : List ℕ) (ac : List ℤ) → plant_lines (plants_of ss ns gs ls vs) al ac ≡ plant_lines (plants_of ss ns [] [] []) al ac
 unfolding plant_lines plant_line plants_of
 lines-columns [] ns gs ls vs al ac = refl
 lines-columns (s ∷ ss) ns gs ls vs al ac =
-    ap (λ (l : List ℕ). plant_line (shown s (get_or ns 0 0)) (take 4 al) (get_or ac 0 (pos 0)) (get_or ac 1 (pos 0)) ++ l)
+    ap (λ (l : List ℕ). plant_line (record { submarket = s; number = get_or ns 0 0; guarantee = 0; loss = 0; availability = 0 }) (take 4 al) (get_or ac 0 (pos 0)) (get_or ac 1 (pos 0)) ++ l)
     (lines-columns ss (drop 1 ns) (drop 1 gs) (drop 1 ls) (drop 1 vs) (drop 4 al) (drop 2 ac))
+
+length-columns : (ss ns gs ls vs : List ℕ) → length (plants_of ss ns gs ls vs) ≡ length (plants_of ss ns [] [] [])
+unfolding plants_of
+length-columns [] ns gs ls vs = refl
+length-columns (s ∷ ss) ns gs ls vs = ap suc (length-columns ss (drop 1 ns) (drop 1 gs) (drop 1 ls) (drop 1 vs))
 
 pub text-columns : (settled : ℕ) (ss ns gs ls vs : List ℕ) (l : Ledger) → statement_text settled (plants_of ss ns gs ls vs) l ≡ statement_text settled (plants_of ss ns [] [] []) l
 unfolding statement_text
 text-columns settled ss ns gs ls vs l =
     ap₂ (λ (a : List ℕ) (n : ℕ). a ++ total_line settled n (four (λ s. sum (allotted_in s l))))
     (lines-columns ss ns gs ls vs l.allotted l.accounts)
-    (length-plants ss ns gs ls vs ∙ sym (length-plants ss ns [] [] []))
-
--- the line of row i, as the code lends and reads its figures
-pub row-line : (ss ns al : List ℕ) (ac : List ℤ) (i : ℕ) {net money : ℤ} → net ≡ get_or ac (2 * i) (pos 0) → money ≡ get_or ac (2 * i + 1) (pos 0)
-    → row_line ss ns al ac i ≡ plant_line (shown (get_or ss i 0) (get_or ns i 0)) (take (4 * i + 4 - 4 * i) (drop (4 * i) al)) net money
-unfolding row_line
-row-line ss ns al ac i e f =
-    let four : 4 * i + 4 - 4 * i ≡ 4 = omega arith in
-    rw (e, f, four)
+    (length-columns ss ns gs ls vs)
 
 -- ---- lengths
 

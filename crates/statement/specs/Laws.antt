@@ -1,7 +1,7 @@
 -- What holds of every statement within document 01's limits. Assumes nothing.
 use Rattle.std.specs.Prelude.{◌≡◌, true, List, [], map, ℕ, ◌*◌, ◌≤◌, length}
 use Rattle.lists.specs.Lists.{Within}
-use Rattle.hour.specs.declared.Plant.{Plant}
+use Rattle.plants.specs.declared.Plant.{Plant}
 use Rattle.hour.specs.Table.{plants_of}
 use Rattle.ledger.specs.Ledger.{Ledger, in_bounds}
 use Rattle.statement.specs.Statement.{statement_text, room_for}

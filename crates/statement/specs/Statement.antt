@@ -4,7 +4,7 @@ use Rattle.std.specs.Prelude.{ℕ, ◌+◌, ◌*◌, List, [], ◌∷◌, ◌++�
 use Rattle.lists.specs.Lists.{sum}
 use Rattle.lists.specs.Columns.{four}
 use Rattle.figures.specs.Figures.{figure, signed_figure, by_commas}
-use Rattle.hour.specs.declared.Plant.{Plant}
+use Rattle.plants.specs.declared.Plant.{Plant}
 use Rattle.ledger.specs.Ledger.{Ledger, allotted_width, accounts_width, allotted_in}
 
 -- a line of text: fields parted by commas, and the byte 10 at its end

@@ -3,7 +3,7 @@ use Rattle.std.specs.Prelude.{◌≡◌, refl, ℕ, List, [], ◌∷◌, ◌++�
 use Rattle.lists.specs.Lists.{sum}
 use Rattle.lists.specs.Columns.{column}
 use Rattle.figures.specs.Figures.{digits, figure, minus, signed_figure, commas_before, by_commas}
-use Rattle.hour.specs.declared.Plant.{Plant}
+use Rattle.plants.specs.declared.Plant.{Plant}
 use Rattle.ledger.specs.Ledger.{Ledger}
 use Rattle.statement.specs.Statement.{line, plant_line, plant_lines, total_line, statement_text}
 

@@ -1,14 +1,14 @@
 // The statement's lines, written from a position on. Every function answers the position behind what it wrote.
-ghost use Rattle.std.specs.Prelude.{[], ◌≤◌, ◌<◌, ◌^◌, length};
+ghost use Rattle.std.specs.Prelude.{◌≤◌, ◌<◌, ◌^◌, length};
 ghost use Rattle.lists.specs.Lists.{sum};
 ghost use Rattle.figures.specs.Figures.{Wrote};
-ghost use Rattle.statement.specs.Writing.{fields_text, leading, shown, row_line, Even, Stateable, Room, Fills};
-ghost use Rattle.hour.specs.Table.{plants_of};
+ghost use Rattle.statement.specs.Writing.{fields_text, leading, Even, Stateable, Room, Fills};
 ghost use Rattle.statement.specs.Statement.{plant_line, plant_lines, total_line, statement_text};
 ghost use Rattle.statement.specs.Lengths.{statement_length};
 
 use figures::writing::{write_byte, write_field, write_signed_field};
-use ledger::{ACCOUNTS, ALLOTTED};
+use ledger::{ACCOUNTS, ALLOTTED, MONEY, NET};
+use plants::Plant;
 
 // Figures, each with a comma before it.
 fn write_fields(figures: &[u64], text: &mut [u8], at: usize) -> usize
@@ -16,10 +16,8 @@ fn write_fields(figures: &[u64], text: &mut [u8], at: usize) -> usize
     ensures { Wrote (fields_text figures.now) at text.old text.new result }
 {
     let mut end = at;
-    let mut i: usize = 0;
-    while i < figures.len() {
-        end = write_field(figures[i], text, end);
-        i += 1;
+    for figure in figures {
+        end = write_field(*figure, text, end);
     }
     end
 }
@@ -44,70 +42,40 @@ pub fn write_leading(
 
 // An A line: submarket, number, the row's ledger figures, net, money.
 fn write_plant_line(
-    submarket: u64,
-    number: u64,
+    plant: &Plant,
     figures: &[u64],
     net: i64,
     money: i64,
     text: &mut [u8],
     at: usize,
 ) -> usize
-    requires { Room (plant_line (shown submarket number) figures.now net money) at text.old }
-    ensures { Wrote (plant_line (shown submarket number) figures.now net money) at text.old text.new result }
+    requires { Room (plant_line plant.now figures.now net money) at text.old }
+    ensures { Wrote (plant_line plant.now figures.now net money) at text.old text.new result }
 {
-    let end = write_leading(b'A', submarket, number, figures, text, at);
+    let end = write_leading(b'A', plant.submarket, plant.number, figures, text, at);
     let end = write_signed_field(net, text, end);
     let end = write_signed_field(money, text, end);
     write_byte(b'\n', text, end)
 }
 
-// The A line of row i.
-fn write_row(
-    submarket: &[u64],
-    number: &[u64],
-    allotted: &[u64],
-    accounts: &[i64],
-    i: usize,
-    text: &mut [u8],
-    at: usize,
-) -> usize
-    requires row { (i < length submarket.now) × Even submarket.now number.now allotted.now accounts.now }
-    requires room { Room (row_line submarket.now number.now allotted.now accounts.now i) at text.old }
-    ensures { Wrote (row_line submarket.now number.now allotted.now accounts.now i) at text.old text.new result }
-{
-    let start = ALLOTTED * i;
-    let stop = start + ALLOTTED;
-    let net = accounts[ACCOUNTS * i];
-    let money = accounts[ACCOUNTS * i + 1];
-    write_plant_line(
-        submarket[i],
-        number[i],
-        &allotted[start..stop],
-        net,
-        money,
-        text,
-        at,
-    )
-}
-
 // The A lines, row by row.
 fn write_plant_lines(
-    submarket: &[u64],
-    number: &[u64],
+    plants: &[Plant],
     allotted: &[u64],
     accounts: &[i64],
     text: &mut [u8],
     at: usize,
 ) -> usize
-    requires even { Even submarket.now number.now allotted.now accounts.now }
-    requires room { Room (plant_lines (plants_of submarket.now number.now [] [] []) allotted.now accounts.now) at text.old }
-    ensures { Wrote (plant_lines (plants_of submarket.now number.now [] [] []) allotted.now accounts.now) at text.old text.new result }
+    requires even { Even plants.now allotted.now accounts.now }
+    requires room { Room (plant_lines plants.now allotted.now accounts.now) at text.old }
+    ensures { Wrote (plant_lines plants.now allotted.now accounts.now) at text.old text.new result }
 {
     let mut end = at;
-    let mut i: usize = 0;
-    while i < submarket.len() {
-        end = write_row(submarket, number, allotted, accounts, i, text, end);
-        i += 1;
+    for (i, plant) in plants.iter().enumerate() {
+        let figures = &allotted[ALLOTTED * i..ALLOTTED * (i + 1)];
+        let net = accounts[ACCOUNTS * i + NET];
+        let money = accounts[ACCOUNTS * i + MONEY];
+        end = write_plant_line(plant, figures, net, money, text, end);
     }
     end
 }
@@ -127,17 +95,16 @@ fn write_total_line(settled: u64, plants: u64, columns: &[u64], text: &mut [u8],
 // The statement, to the front of the text. The answer is its length, and the rest of the text stays.
 pub fn write_statement(
     settled: u64,
-    submarket: &[u64],
-    number: &[u64],
+    plants: &[Plant],
     allotted: &[u64],
     accounts: &[i64],
     text: &mut [u8],
 ) -> usize
-    requires stateable { Stateable submarket.now number.now (record { allotted = allotted.now; accounts = accounts.now }) }
-    requires room { statement_length settled (plants_of submarket.now number.now [] [] []) (record { allotted = allotted.now; accounts = accounts.now }) ≤ length text.old }
-    ensures { Fills (statement_text settled (plants_of submarket.now number.now [] [] []) (record { allotted = allotted.now; accounts = accounts.now })) text.old result text.new }
+    requires stateable { Stateable plants.now (record { allotted = allotted.now; accounts = accounts.now }) }
+    requires room { statement_length settled plants.now (record { allotted = allotted.now; accounts = accounts.now }) ≤ length text.old }
+    ensures { Fills (statement_text settled plants.now (record { allotted = allotted.now; accounts = accounts.now })) text.old result text.new }
 {
     let columns = ledger::column_sums(allotted);
-    let end = write_plant_lines(submarket, number, allotted, accounts, text, 0);
-    write_total_line(settled, submarket.len() as u64, &columns, text, end)
+    let end = write_plant_lines(plants, allotted, accounts, text, 0);
+    write_total_line(settled, plants.len() as u64, &columns, text, end)
 }

@@ -8,7 +8,7 @@ use Rattle.lists.specs.Lists.{sum}
 use Rattle.lists.specs.Columns.{rowwise, ◌⊖◌, Below, joined, transpose}
 use Rattle.lists.proofs.Sums.{at-le-sum}
 use Rattle.lists.proofs.Rows.{Even, rows-even}
-use Rattle.lists.proofs.Columns.{◌!◌, four_is, length-rowwise, sum-⊖, below-⊕, sum_ext, at_joined, get_or-transpose, transpose-sum}
+use Rattle.lists.proofs.Columns.{◌!◌, four_is, length-rowwise, sum-⊖, below-⊕, sum_ext, at_joined, get_or-transpose, transpose-sum, joined-four}
 use Rattle.sharing.specs.Sharing.{Rule}
 use Rattle.transfer.specs.Transfer.{serve, transfer}
 use Rattle.sharing.specs.Laws.{Lawful}
@@ -121,3 +121,6 @@ module _ {rule : Rule} (L : Lawful rule) where
 
 pub transfers : Transfers
 transfers = record { served = λ rule L left need h. served L left need h }
+
+-- the four places of a column
+pub ruleset columns = (joined-four)

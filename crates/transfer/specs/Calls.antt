@@ -1,10 +1,13 @@
 -- The public call: its question, and what it answers in every case (document 01, 'Calls' and 'The questions'). Assumes nothing.
-use Rattle.std.specs.Prelude.{Bool, ◌&&◌, List, [], ◌∷◌, ℕ, leb, eqb}
+use Rattle.std.specs.Prelude.{Bool, ◌&&◌, List, [], ◌∷◌, ℕ, leb, eqb, Result, Ok, Err}
 use Rattle.lists.specs.Lists.{sum, most, every, at_most}
 use Rattle.lists.specs.Columns.{◌⊓◌, four}
 use Rattle.lists.specs.Questions.{◌⁇◌, first_no, outcome}
 use Rattle.sharing.specs.Sharing.{share}
 use Rattle.transfer.specs.Transfer.{transfer}
+use Rattle.refusals.specs.declared.Refusal.{Refusal}
+use Rattle.refusals.specs.Numbers.{refusal_number}
+use Rattle.transfer.specs.declared.Table.{Table}
 use Rattle.transfer.specs.declared.Transferred.{Transferred}
 
 -- no submarket has both, something left and a need
@@ -21,6 +24,11 @@ transfer_number left need =
 -- a table of zeros: 'zeros in every other part of the answer'
 abbrev pub no_table : List (List ℕ)
 no_table = four (λ _. four (λ _. 0))
+
+-- the answer as it goes to C: a table beside 0, or a refusal's number beside zeros
+abbrev pub transferred : Result Table Refusal → Transferred
+transferred (Ok table) = record { number = 0; table = table }
+transferred (Err refusal) = record { number = refusal_number refusal; table = record { rows = no_table } }
 
 -- the number answered, and the table beside it: zeros where it is refused
 unfoldable pub transfer_call : List ℕ → List ℕ → Transferred

@@ -7,9 +7,11 @@ ghost use Rattle.lists.specs.Columns.{◌⊖◌, Below};
 ghost use Rattle.sharing.specs.Sharing.{share};
 ghost use Rattle.transfer.specs.Transfer.{transfer};
 ghost use Rattle.transfer.specs.Laws.{row_sum, column_sum};
-ghost use Rattle.transfer.specs.Calls.{apart, transfer_number, transfer_call};
+ghost use Rattle.refusals.specs.Numbers.{number};
+ghost use Rattle.transfer.specs.Calls.{apart, transfer_number, transfer_call, transferred};
 
-use lists::MOST;
+use lists::{MOST, at_most, sum_of};
+use refusals::{Refusal, ask};
 
 // A transfer table: four rows of four, giver by receiver. C reads it and the answer below as they stand.
 #[repr(C)]
@@ -26,19 +28,12 @@ pub struct Transferred {
     pub table: Table,
 }
 
-// The one function that makes a Table.
-pub fn table_of(rows: [[u64; 4]; 4]) -> Table
-    ensures { result.rows ≡ rows }
-{
-    Table { rows }
-}
-
 // t shared over four weights.
 pub fn share_four(t: u64, weights: [u64; 4]) -> [u64; 4]
     requires { sum weights < 2 ^ 62 }
     ensures { result ≡ share t weights }
 {
-    let w = lists::sum_of(&weights);
+    let w = sum_of(&weights);
     let mut parts = [0u64; 4];
     sharing::share_into(t, w, &weights, &mut parts);
     parts
@@ -86,6 +81,7 @@ pub fn row_sum(table: [[u64; 4]; 4], g: usize) -> u64
 }
 
 // The sum of column r: what a submarket receives.
+#[tactic(auto, using(crate::proofs::Served::columns))]
 pub fn column_sum(table: [[u64; 4]; 4], r: usize) -> u64
     requires { (r < 4) × (column_sum table r < 2 ^ 64) }
     ensures { result ≡ column_sum table r }
@@ -97,46 +93,47 @@ pub fn column_sum(table: [[u64; 4]; 4], r: usize) -> u64
 pub fn are_apart(left: [u64; 4], need: [u64; 4]) -> bool
     ensures { result ≡ apart left need }
 {
-    let mut s: usize = 0;
-    while s < 4 {
-        if left[s] > 0 {
-            if need[s] > 0 {
-                return false;
-            }
-        }
-        s += 1;
-    }
-    true
+    left.iter()
+        .zip(&need)
+        .all(|(left, need)| *left == 0 || *need == 0)
 }
 
 // The question of the transfer step.
-pub fn transfer_number(left: [u64; 4], need: [u64; 4]) -> u64
-    ensures { result ≡ transfer_number left need }
+#[tactic(auto, using(crate::proofs::Asked::hours), unfolding(crate::specs::Calls::transfer_number, lists::specs::Questions::first_no))]
+pub fn ask_transfer(left: [u64; 4], need: [u64; 4]) -> Result<(), Refusal>
+    ensures { number result ≡ transfer_number left need }
 {
-    if !lists::at_most(MOST, &left) {
-        return 23;
-    }
-    if !lists::at_most(MOST, &need) {
-        return 23;
-    }
-    if lists::sum_of(&left) < lists::sum_of(&need) {
-        return 23;
-    }
-    if !are_apart(left, need) {
-        return 23;
-    }
-    0
+    ask(
+        at_most(MOST, &left)
+            && at_most(MOST, &need)
+            && sum_of(&need) <= sum_of(&left)
+            && are_apart(left, need),
+        Refusal::Transfer,
+    )
 }
 
-// The transfer step, with its question put: the table beside the number 0, or 23 beside zeros.
-pub fn transfer(left: [u64; 4], need: [u64; 4]) -> Transferred
-    ensures { result ≡ transfer_call left need }
+// The transfer step, with its question put.
+#[tactic(auto, unfolding(crate::specs::Calls::transfer_call, lists::specs::Questions::outcome))]
+pub fn transfer(left: [u64; 4], need: [u64; 4]) -> Result<Table, Refusal>
+    ensures { transferred result ≡ transfer_call left need }
 {
-    let number = transfer_number(left, need);
-    if number != 0 {
-        let table = table_of([[0u64; 4]; 4]);
-        return Transferred { number, table };
+    ask_transfer(left, need)?;
+    Ok(Table {
+        rows: transfer_step(left, need),
+    })
+}
+
+// Zeros beside the number of a refusal.
+impl From<Result<Table, Refusal>> for Transferred {
+    ghost from_gives = { λ answer given. given ≡ transferred answer };
+
+    fn from(answer: Result<Table, Refusal>) -> Transferred {
+        match answer {
+            Ok(table) => Transferred { number: 0, table },
+            Err(refusal) => Transferred {
+                number: refusal.number(),
+                table: Table { rows: [[0; 4]; 4] },
+            },
+        }
     }
-    let table = table_of(transfer_step(left, need));
-    Transferred { number: 0, table }
 }

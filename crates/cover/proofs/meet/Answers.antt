@@ -13,18 +13,19 @@ use Rattle.transfer.specs.Laws.{row_sum}
 use Rattle.sharing.proofs.Sharing.{share-lawful}
 use Rattle.blocks.specs.Portion.{portion}
 use Rattle.cover.specs.Cover.{own, own_parts, table, got}
-use Rattle.blocks.specs.Blocks.{standing_at, Rising, Raised, in_columns, Room}
+use Rattle.blocks.specs.Blocks.{standing_at, Raised, in_columns, Room}
+use Rattle.blocks.proofs.Slices.{Rising, rising}
 use Rattle.cover.specs.Givers.{got_by, SentWithin}
 use Rattle.cover.proofs.Cover.{transfer-asked}
 use Rattle.cover.proofs.Serving.{four-within}
-use Rattle.cover.proofs.Meeting.{room-first, sited, still_is, still_room, still_sized, sent-within, rows-below, rest_is, meets}
+use Rattle.cover.proofs.Meeting.{room-first, sited, still_is, still_room, sent-within, rows-below, rest_is, meets}
 use Rattle.cover.proofs.meet.Goals as goal
 use Rattle.cover.proofs.meet.Goals.{Start}
 
 -- what the definitions speak of
 module _ (c : Start) where
   abbrev subs : List ℕ
-  subs = standing_at c.args.starts
+  subs = standing_at c.args.blocks.starts
 
   abbrev have : List ℕ
   have = c.args.have
@@ -35,8 +36,8 @@ module _ (c : Start) where
   abbrev own' : List ℕ
   own' = own share subs have want
 
-  abbrev up : Rising c.args.starts (length want)
-  up = c.requires.rising.0
+  abbrev up : Rising c.args.blocks.starts (length want)
+  up = rising c.args.blocks (length want) c.requires.want_len.0
 
   four-have : length have ≡ 4
   four-have = c.well_formed.1.0.1.0.1
@@ -81,65 +82,55 @@ module _ (c : Start) (sums o : List ℕ) (sums_e : sums ≡ totals (subs c) (wan
     own_raised : Raised (in_columns (0 ∷ 1 ∷ 2 ∷ 3 ∷ []) (subs c) (own_parts share (subs c) (have c) (want c))) c.args.figures.now figures'
     own_raised = subst (λ p. Raised (in_columns (0 ∷ 1 ∷ 2 ∷ 3 ∷ []) (subs c) p) c.args.figures.now figures') parts_are r
 
-pub share_blocks-requires : goal.share_blocks-requires
-share_blocks-requires c =
-    let d = (goal.at.share_blocks-requires c).Start in
-    let o = c.own_of-own.ensures in
-    record {
-      rising = (up d, c.requires.rising.1, c.requires.rising.2);
-      sums_value = (
-        c.block_sums-need.ensures,
-        (let a = small d in omega arith),
-        subst (λ l. Below l c.block_sums-need.result) (sym o) (min_right _ c.block_sums-need.result),
-      );
-      within = (four-within (omega arith) (omega arith) (omega arith) (omega arith), room d);
-    }
+pub share-requires-clause-sums_value : goal.share-requires-clause-sums_value
+share-requires-clause-sums_value c =
+    let o = c.own_of-own.ensures in (
+      c.sums-need.ensures,
+      (let a = small (goal.at.share-requires-clause-sums_value c).Start in omega arith),
+      subst (λ l. Below l c.sums-need.result) (sym o) (min_right _ c.sums-need.result),
+    )
+
+pub share-requires-clause-within : goal.share-requires-clause-within
+share-requires-clause-within c = (four-within (omega arith) (omega arith) (omega arith) (omega arith), room (goal.at.share-requires-clause-within c).Start)
 
 pub less-left-requires : goal.less-left-requires
-less-left-requires c = subst (λ l. Below l c.args.have) (sym c.own_of-own.ensures) (min-left c.args.have c.block_sums-need.result)
+less-left-requires c = subst (λ l. Below l c.args.have) (sym c.own_of-own.ensures) (min-left c.args.have c.sums-need.result)
 
 pub less-still-requires : goal.less-still-requires
-less-still-requires c = subst (λ l. Below l c.block_sums-need.result) (sym c.own_of-own.ensures) (min_right _ c.block_sums-need.result)
+less-still-requires c = subst (λ l. Below l c.sums-need.result) (sym c.own_of-own.ensures) (min_right _ c.sums-need.result)
 
 pub transfer_step-rows-requires : goal.transfer_step-rows-requires
 transfer_step-rows-requires c =
     let d = (goal.at.transfer_step-rows-requires c).Start in
-    let s = c.block_sums-need.ensures in let o = c.own_of-own.ensures in
+    let s = c.sums-need.ensures in let o = c.own_of-own.ensures in
     let small = c.requires.have_bound.0 in
-    let t = transfer-asked share-lawful (subs d) (have d) (want d) (four-have d) (sited d.args.starts (have d) (want d) (up d)) c.requires.have_bound.1 small in (
+    let t = transfer-asked share-lawful (subs d) (have d) (want d) (four-have d) (sited d.args.blocks.starts (have d) (want d) (up d)) c.requires.have_bound.1 small in (
       (let a = left_small d _ _ s o _ c.less-left.ensures in omega arith),
       (let a = ap sum (left_is d _ _ s o _ c.less-left.ensures) in let b = ap sum (open_is d _ _ s o _ c.less-still.ensures) in let e = t.enough in omega arith),
     )
 
-pub serve_rows-requires : goal.serve_rows-requires
-serve_rows-requires c =
-    let d = (goal.at.serve_rows-requires c).Start in
-    let s = c.block_sums-need.ensures in let o = c.own_of-own.ensures in
-    let w = still_want d _ _ s o _ _ c.share_blocks.ensures.want_after c.share_blocks.ensures.raised in
-    let own_up = own_raised d _ _ s o _ _ c.share_blocks.ensures.want_after c.share_blocks.ensures.raised in
+pub serve_rows-requires-clause-need_value : goal.serve_rows-requires-clause-need_value
+serve_rows-requires-clause-need_value c =
+    let d = (goal.at.serve_rows-requires-clause-need_value c).Start in
+    let s = c.sums-need.ensures in let o = c.own_of-own.ensures in
+    let w = still_want d _ _ s o _ _ c.share.ensures.want_after c.share.ensures.raised in
+    let own_up = own_raised d _ _ s o _ _ c.share.ensures.want_after c.share.ensures.raised in
     let open_e = open_is d _ _ s o _ c.less-still.ensures in
     let table_e = table_is d _ _ s o _ _ _ c.less-left.ensures c.less-still.ensures c.transfer_step-rows.ensures in
-    let l = ap length w ∙ still_sized d.args.starts (have d) (want d) (up d) in
-    let q = c.share_blocks.auto.part in
-    let f = own_up.same in
-    let short : length (own' d) ≤ 4 = let a = ap length (own_is d _ _ s o) in omega arith in
-    record {
-      rising = (subst (Rising d.args.starts) (sym l) (up d), omega arith, omega arith);
-      need_value = (
-        open_e ∙ still_is d.args.starts (have d) (want d) (up d) short ∙ ap (totals (subs d)) (sym w),
-        (let a = ap sum w in let e = fewer (want d) (own_parts share (subs d) (have d) (want d)) in let g = small d in omega arith),
-        subst₂ SentWithin (sym table_e) (sym open_e) (sent-within d.args.starts (have d) (want d) (up d) (four-have d) c.requires.have_bound.1),
-        subst (λ x. Room x c.share_blocks.new.figures) (sym w) (still_room d.args.starts (have d) (want d) (up d) (room d) own_up),
-      );
-    }
+    let short : length (own' d) ≤ 4 = let a = ap length (own_is d _ _ s o) in omega arith in (
+      open_e ∙ still_is d.args.blocks.starts (have d) (want d) (up d) short ∙ ap (totals (subs d)) (sym w),
+      (let a = ap sum w in let e = fewer (want d) (own_parts share (subs d) (have d) (want d)) in let g = small d in omega arith),
+      subst₂ SentWithin (sym table_e) (sym open_e) (sent-within d.args.blocks.starts (have d) (want d) (up d) (four-have d) c.requires.have_bound.1),
+      subst (λ x. Room x c.share.new.figures) (sym w) (still_room d.args.blocks.starts (have d) (want d) (up d) (room d) own_up),
+    )
 
 pub rest_of-rest-requires : goal.rest_of-rest-requires
 rest_of-rest-requires c =
     let d = (goal.at.rest_of-rest-requires c).Start in
-    let s = c.block_sums-need.ensures in let o = c.own_of-own.ensures in (
+    let s = c.sums-need.ensures in let o = c.own_of-own.ensures in (
       subst₂ (λ x y. Below (four (λ s. row_sum x (s - 1))) y)
           (sym (table_is d _ _ s o _ _ _ c.less-left.ensures c.less-still.ensures c.transfer_step-rows.ensures)) (sym (left_is d _ _ s o _ c.less-left.ensures))
-          (rows-below d.args.starts (have d) (want d) (up d) (four-have d) c.requires.have_bound.1),
+          (rows-below d.args.blocks.starts (have d) (want d) (up d) (four-have d) c.requires.have_bound.1),
       (let a = left_small d _ _ s o _ c.less-left.ensures in omega arith),
     )
 
@@ -147,14 +138,14 @@ pub returns : goal.returns
 unfolding got
 returns c =
     let d = (goal.at.returns c).Start in
-    let s = c.block_sums-need.ensures in let o = c.own_of-own.ensures in
+    let s = c.sums-need.ensures in let o = c.own_of-own.ensures in
     let table_e = table_is d _ _ s o _ _ _ c.less-left.ensures c.less-still.ensures c.transfer_step-rows.ensures in
-    let w = still_want d _ _ s o _ _ c.share_blocks.ensures.want_after c.share_blocks.ensures.raised in
-    let own_up = own_raised d _ _ s o _ _ c.share_blocks.ensures.want_after c.share_blocks.ensures.raised in
+    let w = still_want d _ _ s o _ _ c.share.ensures.want_after c.share.ensures.raised in
+    let own_up = own_raised d _ _ s o _ _ c.share.ensures.want_after c.share.ensures.raised in
     record {
-      rows_value = c.table_of-table.ensures ∙ table_e;
+      rows_value = table_e;
       rest_value = c.rest_of-rest.ensures ∙ ap₂ (λ x y. x ⊖ four (λ s. row_sum y (s - 1))) (left_is d _ _ s o _ c.less-left.ensures) table_e
-          ∙ rest_is d.args.starts (have d) (want d) (up d) (four-have d) c.requires.have_bound.1;
-      figures_after = meets d.args.starts (have d) (want d) (up d) c.requires.rising.2 own_up
-          (subst₂ (λ x y. Raised (got_by (serve (portion share (subs d)) x y)) c.share_blocks.new.figures c.serve_rows.new.figures) w table_e c.serve_rows.ensures);
+          ∙ rest_is d.args.blocks.starts (have d) (want d) (up d) (four-have d) c.requires.have_bound.1;
+      figures_after = meets d.args.blocks.starts (have d) (want d) (up d) c.requires.want_len.2 own_up
+          (subst₂ (λ x y. Raised (got_by (serve (portion share (subs d)) x y)) c.share.new.figures c.serve_rows.new.figures) w table_e c.serve_rows.ensures);
     }

@@ -6,5 +6,5 @@ use Rattle.lists.proofs.Columns.{rowwise-table}
 use Rattle.cover.proofs.own_of.Goals as goal
 
 pub returns : goal.returns
-returns c = (λ i. c.smaller-a.ensures i ∷ c.smaller-b.ensures i ∷ c.smaller-c.ensures i ∷ c.smaller-d.ensures i ∷ [])
+returns c = (λ i. c.min.ensures i ∷ c.min-2.ensures i ∷ c.min-3.ensures i ∷ c.min-4.ensures i ∷ [])
     ∙ sym (rowwise-table min 0 0 4 c.args.have c.args.need c.well_formed.0.1.0.1 c.well_formed.1.0.1.0.1)

@@ -1,5 +1,4 @@
 use mathlib.Core.Path.{◌≡◌}
-use Prim.Native.Nat.{◌-◌}
 use lib.ListN.{length}
 use Rattle.sharing.specs.Sharing.{share}
 use Rattle.transfer.specs.Transfer.{serve}
@@ -10,7 +9,4 @@ use Rattle.cover.proofs.serve_rows.Given as goal
 
 abbrev pub invariant-loop-g : goal.invariant-loop-g
 invariant-loop-g l = (length l.part ≡ length l.initial.part)
-    × Giving (standing_at l.starts) l.table (serve (portion share (standing_at l.starts)) l.initial.want l.table) l.initial.want l.initial.figures l.want l.figures l.still l.g
-
-abbrev pub decreases-loop-g : goal.decreases-loop-g
-decreases-loop-g l = 4 - l.g
+    × Giving (standing_at l.blocks.starts) l.fn.table (serve (portion share (standing_at l.blocks.starts)) l.initial.want l.fn.table) l.initial.want l.initial.figures l.want l.figures l.still l.g

@@ -1,18 +1,18 @@
 -- `feed_kept` meets its contract. Assumes nothing.
-use Rattle.kept_file.proofs.KeptFiles.{feeds_refused, feeds_taken}
+use mathlib.Core.Path.{refl}
+use Rattle.refusals.proofs.Asking.{refused_number}
+use Rattle.kept_file.proofs.KeptFiles.{fed_short, fed_refused, fed_taken}
 use Rattle.kept_file.proofs.feed_kept.Goals as goal
 
-pub file_of-meant-requires : goal.file_of-meant-requires
-file_of-meant-requires c = tt
+pub returns-then-columns-lt-COLUMNS : goal.returns-then-columns-lt-COLUMNS
+returns-then-columns-lt-COLUMNS c = rw c.refused.ensures (fed_short c.if-columns-lt-COLUMNS.true refl)
 
-pub feed_any-fed-requires : goal.feed_any-fed-requires
-feed_any-fed-requires c = tt
+pub returns-in-Ok : goal.returns-in-Ok
+returns-in-Ok c =
+    fed_taken _ _ _ _ _ _ _ c.if-columns-lt-COLUMNS.false c.from-meant.ensures c.plants_of-plants.ensures c.in-Ok.ensures refl c.feed_any.auto.plants c.feed_any.auto.line
+    c.put_plants.ensures c.taken.ensures
 
-pub returns-then-fed-ne0 : goal.returns-then-fed-ne0
-returns-then-fed-ne0 c = feeds_refused c.file_of-meant.ensures c.feed_any-fed.ensures c.if-fed-ne0.true
-
-pub kept_file_of-requires : goal.kept_file_of-requires
-kept_file_of-requires c = tt
-
-pub returns : goal.returns
-returns c = feeds_taken c.file_of-meant.ensures c.feed_any-fed.ensures c.if-fed-ne0.false c.kept_file_of.ensures
+pub returns-in-Err : goal.returns-in-Err
+returns-in-Err c =
+    rw c.refused-in-Err.ensures
+    (fed_refused _ _ _ _ _ _ _ c.if-columns-lt-COLUMNS.false c.from-meant.ensures c.plants_of-plants.ensures c.in-Err.ensures refl (λ z. refused_number c.in-Err.refusal z))

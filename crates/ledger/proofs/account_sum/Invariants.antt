@@ -1,10 +1,8 @@
-use Prim.Native.Nat.{◌-◌}
+use Prim.Native.Nat.{◌+◌, ◌*◌}
 use lib.ListN.{length}
+use Rattle.ledger.specs.Ledger.{accounts_width}
 use Rattle.ledger.proofs.Sums.{Totalling}
 use Rattle.ledger.proofs.account_sum.Given as goal
 
-abbrev pub invariant-loop-i : goal.invariant-loop-i
-invariant-loop-i l = Totalling l.start l.accounts l.i l.total
-
-abbrev pub decreases-loop-i : goal.decreases-loop-i
-decreases-loop-i l = length l.accounts - l.i
+abbrev pub invariant-loop-figure : goal.invariant-loop-figure
+invariant-loop-figure l = Totalling l.start l.accounts (l.start + length l.yielded * accounts_width) l.total

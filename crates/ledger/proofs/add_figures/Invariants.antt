@@ -1,10 +1,6 @@
-use Prim.Native.Nat.{◌+◌, ◌-◌}
-use lib.ListN.{length}
+use Prim.Native.Nat.{◌+◌}
 use Rattle.ledger.proofs.Lists.{Joining}
 use Rattle.ledger.proofs.add_figures.Given as goal
 
 abbrev pub invariant-loop-i : goal.invariant-loop-i
 invariant-loop-i l = Joining ◌+◌ 0 l.more l.i l.initial.figures l.figures
-
-abbrev pub decreases-loop-i : goal.decreases-loop-i
-decreases-loop-i l = length l.more - l.i

@@ -1,5 +1,4 @@
-use Prim.Native.Nat.{◌-◌}
-use lib.ListN.{length, drop}
+use lib.ListN.{drop}
 use Rattle.lists.proofs.Loops.{Passing}
 use Rattle.signed.specs.Figures.{is_within}
 use Rattle.ledger.proofs.Posting.{after}
@@ -7,6 +6,3 @@ use Rattle.ledger.proofs.column_within_after.Given as goal
 
 abbrev pub invariant-loop-i : goal.invariant-loop-i
 invariant-loop-i l = Passing (is_within l.bound) (after l.accounts l.nets l.rate l.start) (drop l.i (after l.accounts l.nets l.rate l.start))
-
-abbrev pub decreases-loop-i : goal.decreases-loop-i
-decreases-loop-i l = length l.nets - l.i

@@ -1,14 +1,16 @@
--- `lists::copy_into` meets its contract: the figure at i is stored at i. Assumes nothing.
-use mathlib.Core.Path.{ap, ◌∙◌}
-use mathlib.Core.List.{List, ◌++◌}
-use Prim.Native.Nat.{ℕ}
-use lib.ListN.{length, drop}
-use Rattle.lists.proofs.Loops.{loops, tabled}
-use Rattle.lists.proofs.Sums.{table-get_or}
+-- `lists::copy_into` meets its contract: the element at i is stored at i. Assumes nothing.
+use Rattle.std.proofs.Common.{sym}
+use lib.ListN.{drop_of_length-le}
+use Rattle.lists.proofs.Loops.{filling, filling_more, filled, drop_more}
 use Rattle.lists.proofs.copy_into.Goals as goal
 
-pub returns : goal.returns
-returns c = tabled _ c.loop-i.invariant c.loop-i-test.false ∙ ap (λ (l : List ℕ). l ++ drop (length c.args.figures.now) c.args.list.now) (table-get_or 0 c.args.figures.now)
+pub loop-i-init : goal.loop-i-init
+loop-i-init g c = filling c.requires
 
 pub loop-i-preserved : goal.loop-i-preserved
-loop-i-preserved c = search loops
+loop-i-preserved g c =
+    filling_more c.loop-i.invariant c.loop-i-test.true (drop_more c.args.figures.now c.loop-i.i c.index-figures-i.result c.loop-i-test.true)
+    (sym c.index-figures-i.is)
+
+pub returns : goal.returns
+returns g c = filled c.loop-i.invariant c.loop-i-test.false (drop_of_length-le c.args.figures.now c.loop-i-test.false)

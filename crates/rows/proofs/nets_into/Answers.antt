@@ -1,27 +1,16 @@
-use mathlib.Core.Path.{◌≡◌, refl, sym, ◌∙◌}
-use Prim.Native.Nat.{ℕ, ◌+◌}
+-- `rows::nets_into` meets its contract. Assumes nothing.
+use mathlib.Core.Path.{refl, sym, ap, ◌∙◌}
+use Prim.Native.Nat.{◌+◌}
 use native.Mathlib.Omega.{arith}
-use lib.ListN.{length, get_or}
-use Rattle.lists.proofs.Written.{written, written_all}
-use lib.IntN.{sub_ℕ}
-use Rattle.lists.specs.Lists.{table}
-use Rattle.lists.specs.Columns.{rowwise, ◌⊕◌}
-use Rattle.lists.proofs.Columns.{rowwise-table, length-rowwise, at-⊕}
+use lib.ListN.{get_or}
+use lib.IntN.{pos, sub_ℕ}
+use Rattle.lists.specs.Columns.{◌⊕◌}
+use Rattle.lists.proofs.Columns.{length-rowwise, at-⊕}
+use Rattle.rows.proofs.Fours.{rowwise_written}
 use Rattle.rows.proofs.nets_into.Goals as goal
 
-pub net_of-requires : goal.net_of-requires
-net_of-requires c = let pre = c.requires.within in
-    let i = c.loop-i.i in
-    let x = pre.0.at i in let y = pre.1.at i in let z = pre.2.at i in
-    omega arith
-
 pub returns : goal.returns
-returns c = let g = c.args.metered.now in let b = c.args.covered.now in let r = c.args.rights.now in
-    let n = length g in
-    let e : rowwise sub_ℕ 0 0 g (b ⊕ r) ≡ table n (λ (j : ℕ). sub_ℕ (get_or g j 0) (get_or (b ⊕ r) j 0)) =
-    rowwise-table sub_ℕ 0 0 n g (b ⊕ r) refl (length-rowwise ◌+◌ 0 0 b r ∙ (let p = c.requires.covered_len in omega arith)) in
-    written_all _ c.loop-i.invariant c.loop-i-test.false c.requires.covered_len.2
-    ∙ sym (e ∙ (λ k. table n (λ (j : ℕ). sub_ℕ (get_or g j 0) (at-⊕ b r j k))))
-
-pub loop-i-preserved : goal.loop-i-preserved
-loop-i-preserved c = search written
+returns c =
+    let b = c.args.covered.now in let r = c.args.rights.now in
+    rowwise_written sub_ℕ (pos 0) refl c.args.metered.now (b ⊕ r) c.loop-i.nets (let e = length-rowwise ◌+◌ 0 0 b r in let l = c.requires.covered_len in omega arith) (omega arith)
+    (λ k h. c.loop-i.invariant k (omega arith) ∙ ap (sub_ℕ (get_or c.args.metered.now k 0)) (sym (at-⊕ b r k)))

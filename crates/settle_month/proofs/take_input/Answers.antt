@@ -2,15 +2,9 @@
 use Rattle.settle_month.proofs.Parts.{taking, taking_more}
 use Rattle.settle_month.proofs.take_input.Goals as goal
 
-pub loop-turns-init : goal.loop-turns-init
-loop-turns-init g c = taking c.requires.longest_in_bounds c.requires.valid
+pub loop-init : goal.loop-init
+loop-init g c = taking c.requires.longest_in_bounds c.requires.valid
 
-pub loop-turns-preserved : goal.loop-turns-preserved
-loop-turns-preserved g c = let w = c.take_part-file in
-    taking_more c.loop-turns.invariant c.read.auto.buf c.in-Ok.ensures.bytes.0 w.ensures (record {
-      bytes = w.auto.line;
-      columns = w.auto.columns;
-      profile = w.auto.profile;
-      allotted = w.auto.allotted;
-      accounts = w.auto.accounts;
-    })
+pub loop-preserved : goal.loop-preserved
+loop-preserved g c = let w = c.take_part-file in
+    taking_more c.loop.invariant c.read.auto.buf c.in-Ok.ensures.bytes.0 w.ensures (record { bytes = w.auto.line; plants = w.auto.plants; profile = w.auto.profile; allotted = w.auto.allotted; accounts = w.auto.accounts })

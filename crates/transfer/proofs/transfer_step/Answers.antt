@@ -40,9 +40,6 @@ left3 c = c.less-left-3.ensures ∙ ap₂ (λ x y. x ⊖ y) (left2 c.before.befo
 part4 : (c : After-share_four-d) → c.share_four-d.result ≡ share (need c.before.before.before.before.before.before.before ! 3) (after3 share-lawful (left c.before.before.before.before.before.before.before) (need c.before.before.before.before.before.before.before))
 part4 c = c.share_four-d.ensures ∙ ap (share _) (left3 c.before)
 
-pub share_four-a-requires : goal.share_four-a-requires
-share_four-a-requires c = c.requires.0
-
 pub less-left-requires : goal.less-left-requires
 less-left-requires c = subst (λ x. Below x (left (goal.at.less-left-requires c).Start)) (sym c.share_four-a.ensures) (share-lawful.bounded (need (goal.at.less-left-requires c).Start ! 0) (left (goal.at.less-left-requires c).Start) (known (goal.at.less-left-requires c).Start).first)
 

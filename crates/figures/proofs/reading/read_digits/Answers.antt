@@ -1,35 +1,33 @@
 -- `reading::read_digits` meets its contract. Assumes nothing.
-use Prim.Native.Nat.{◌+◌, ◌-◌, ◌*◌, ◌^◌, ◌≤◌, ◌<◌}
 use native.Mathlib.Omega.{arith}
-use mathlib.Core.Path.{sym, ◌∙◌}
-use Rattle.lists.proofs.Questions.{refused, granted}
+use Prim.Native.Nat.{◌+◌, ◌-◌, ◌*◌, ◌^◌, ◌≤◌, ◌<◌}
+use lib.ListN.{get_or}
 use Rattle.figures.proofs.Digits.{reading, reading_fits, reading_more, reading_stopped, read_whole}
 use Rattle.figures.proofs.reading.read_digits.Goals as goal
-use Rattle.figures.proofs.reading.read_digits.Goals.{Else-not-in_range}
+use Rattle.figures.proofs.reading.read_digits.Goals.{Else-not-is_ascii_digit}
 
 -- a digit, and the number with it
-room : (c : Else-not-in_range)
-    → let b = c.wide-b.result in (48 ≤ b) × (10 * c.loop-i.value + (b - 48) < 10 ^ 19)
-room c =
-    reading_fits c.loop-i.invariant c.loop-i-test.true c.requires (sym c.in_range.ensures ∙ c.if-not-in_range.false)
+room : (c : Else-not-is_ascii_digit)
+    → let b = get_or c.args.field.now c.loop-b.b-index 0 in (48 ≤ b) × (10 * c.loop-b.value + (b - 48) < 10 ^ 19)
+room c = reading_fits c.loop-b.invariant c.loop-b-test.true c.is_ascii_digit.ensures.value c.if-not-is_ascii_digit.false c.requires
 
-pub loop-i-init : goal.loop-i-init
-loop-i-init c = reading
+pub loop-b-init : goal.loop-b-init
+loop-b-init c = reading
 
 pub overflow_mul-value : goal.overflow_mul-value
 overflow_mul-value c = omega (arith, room c)
 
-pub overflow_sub-value : goal.overflow_sub-value
-overflow_sub-value c = (room c).0
+pub overflow_sub-b : goal.overflow_sub-b
+overflow_sub-b c = (room (goal.at.overflow_sub-b c).Else-not-is_ascii_digit).0
 
 pub overflow_add-value : goal.overflow_add-value
-overflow_add-value c = omega (arith, room c)
+overflow_add-value c = omega (arith, room (goal.at.overflow_add-value c).Else-not-is_ascii_digit)
 
-pub returns-then-not-in_range : goal.returns-then-not-in_range
-returns-then-not-in_range c = search (reading_stopped, refused)
+pub returns-then-not-is_ascii_digit : goal.returns-then-not-is_ascii_digit
+returns-then-not-is_ascii_digit c = search reading_stopped
 
-pub loop-i-preserved : goal.loop-i-preserved
-loop-i-preserved c = search (reading_more, granted)
+pub loop-b-preserved : goal.loop-b-preserved
+loop-b-preserved c = search reading_more
 
 pub returns : goal.returns
 returns c = search read_whole

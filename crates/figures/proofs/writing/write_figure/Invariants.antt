@@ -3,6 +3,3 @@ use Rattle.figures.proofs.writing.write_figure.Given as goal
 
 abbrev pub invariant-loop-i : goal.invariant-loop-i
 invariant-loop-i l = Writing l.x l.at l.initial.text l.i l.rest l.text
-
-abbrev pub decreases-loop-i : goal.decreases-loop-i
-decreases-loop-i l = l.i

@@ -1,12 +1,14 @@
 -- `beginning::begun` meets its contract. Assumes nothing.
+use mathlib.Core.Path.{refl}
+use Rattle.refusals.proofs.Asking.{refused_number}
 use Rattle.file_lines.specs.File.{begun}
 use Rattle.file_lines.proofs.Moves.{refuses-by, begins-by}
 use Rattle.file_lines.proofs.beginning.begun.Goals as goal
 
-pub returns-then-no-ne0 : goal.returns-then-no-ne0
+pub returns-in-Err : goal.returns-in-Err
 unfolding begun
-returns-then-no-ne0 c k lent = refuses-by _ k lent _ _ _ _ c.refused.ensures c.sizes_number-no.ensures c.if-no-ne0.true
+returns-in-Err c k lent = refuses-by _ k lent _ _ _ _ c.refused.ensures c.in-Err.ensures (λ z. refused_number c.in-Err.refusal z)
 
-pub returns : goal.returns
+pub returns-in-Ok : goal.returns-in-Ok
 unfolding begun
-returns c k lent = begins-by _ k lent _ _ _ _ _ c.requires c.sizes_number-no.ensures c.if-no-ne0.false c.at_stage-f.ensures
+returns-in-Ok c k lent = begins-by _ k lent _ _ _ _ 0 c.requires c.in-Ok.ensures refl c.at_stage.ensures

@@ -1,13 +1,20 @@
 -- `fields::field_start` meets its contract: a turn passes over a field. Assumes nothing.
+use mathlib.Core.Path.{◌≡◌}
+use Prim.Native.Nat.{◌+◌, ◌-◌}
 use native.Mathlib.Omega.{arith}
-use Rattle.lines.proofs.Commas.{skipping_more, skipped_all, next-high}
+use Rattle.lines.proofs.Commas.{skipping_more, skipped, skipped_all, next-high}
 use Rattle.lines.proofs.fields.field_start.Goals as goal
 
 pub overflow_add-result : goal.overflow_add-result
-overflow_add-result c = omega (arith, c.well_formed.0.1, next-high c.args.line.now c.loop-left.at c.loop-left.invariant.inside)
+overflow_add-result c = omega (arith, c.well_formed.0.1, next-high c.args.line.now c.loop-passed.at c.loop-passed.invariant.inside)
 
 pub returns-then-line-end : goal.returns-then-line-end
-returns-then-line-end c = skipped_all c.loop-left.invariant c.loop-left-test.true c.next_comma-end.ensures c.if-line-end.true
+returns-then-line-end c = skipped_all c.loop-passed.invariant (omega arith) c.next_comma-end.ensures c.if-line-end.true
 
-pub loop-left-preserved : goal.loop-left-preserved
-loop-left-preserved c = skipping_more c.loop-left.invariant c.loop-left-test.true c.next_comma-end.ensures (omega (arith, c.if-line-end.false))
+pub loop-passed-preserved : goal.loop-passed-preserved
+loop-passed-preserved c =
+    let one_less : c.args.index - c.loop-passed._passed - 1 ≡ c.args.index - (c.loop-passed._passed + 1) = omega arith in
+    rw one_less at (skipping_more c.loop-passed.invariant (omega arith) c.next_comma-end.ensures c.if-line-end.false)
+
+pub returns : goal.returns
+returns c = skipped c.loop-passed.invariant (omega arith)

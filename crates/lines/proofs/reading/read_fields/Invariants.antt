@@ -1,10 +1,7 @@
-use Prim.Native.Nat.{◌-◌}
 use lib.ListN.{length}
+use Rattle.lines.specs.Fields.{fields}
 use Rattle.lines.proofs.Lines.{Gathering}
 use Rattle.lines.proofs.reading.read_fields.Given as goal
 
-abbrev pub invariant-loop-count : goal.invariant-loop-count
-invariant-loop-count l = Gathering l.line l.from l.initial.figures l.at l.good l.count l.figures
-
-abbrev pub decreases-loop-count : goal.decreases-loop-count
-decreases-loop-count l = length l.initial.figures - l.count
+abbrev pub invariant-loop-i : goal.invariant-loop-i
+invariant-loop-i l = Gathering (fields l.bytes) (length l.yielded) l.figures

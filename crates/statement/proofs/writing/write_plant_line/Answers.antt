@@ -8,9 +8,9 @@ use mir.Syntax.{w64}
 use mir.Val.{to_z, of_z}
 use mir.Facts.{to_z-of_z}
 use Rattle.figures.specs.Figures.{signed_figure, signed_figure_length, Wrote}
-use Rattle.hour.specs.declared.Plant.{Plant}
+use Rattle.plants.specs.declared.Plant.{Plant}
 use Rattle.statement.specs.Statement.{plant_line}
-use Rattle.statement.specs.Writing.{leading, shown, Room}
+use Rattle.statement.specs.Writing.{leading, Room}
 use Rattle.statement.proofs.Text.{plant-line_is}
 use Rattle.statement.proofs.Parts.{Left, left-whole, left-room, left-more, left-fits, left-last}
 use Rattle.statement.proofs.writing.write_plant_line.Goals as goal
@@ -45,21 +45,21 @@ module _ (p : Plant) (figures : List ℕ) (net money : ℤ) {at : ℕ} {text : L
       at_end b w₃ = left-more at-money _ _ (money-as b) w₃
 
 pub write_leading-end-requires : goal.write_leading-end-requires
-write_leading-end-requires c = left-room (at-start (shown c.args.submarket c.args.number) c.args.figures.now c.args.net c.args.money c.requires) _ _ refl
+write_leading-end-requires c = left-room (at-start c.args.plant.now c.args.figures.now c.args.net c.args.money c.requires) _ _ refl
 
 pub write_signed_field-end-requires : goal.write_signed_field-end-requires
 unfolding signed_figure_length
-write_signed_field-end-requires c = (left-room (at-net (shown c.args.submarket c.args.number) c.args.figures.now c.args.net c.args.money c.requires c.write_leading-end.ensures) (44 ∷ signed_figure (to_z w64 (of_z w64 c.args.net))) (from_money c.args.money) (net_as c.args.money (to_z-of_z c.ranges.net))).fits
+write_signed_field-end-requires c = (left-room (at-net c.args.plant.now c.args.figures.now c.args.net c.args.money c.requires c.write_leading-end.ensures) (44 ∷ signed_figure (to_z w64 (of_z w64 c.args.net))) (from_money c.args.money) (net_as c.args.money (to_z-of_z c.ranges.net))).fits
 
 pub write_signed_field-end-requires-2 : goal.write_signed_field-end-requires-2
 unfolding signed_figure_length
 write_signed_field-end-requires-2 c =
-    (left-room (at-money (shown c.args.submarket c.args.number) c.args.figures.now c.args.net c.args.money c.requires c.write_leading-end.ensures (to_z-of_z c.ranges.net) c.write_signed_field-end.ensures) (44 ∷ signed_figure (to_z w64 (of_z w64 c.args.money))) (10 ∷ []) (money-as (to_z-of_z c.ranges.money))).fits
+    (left-room (at-money c.args.plant.now c.args.figures.now c.args.net c.args.money c.requires c.write_leading-end.ensures (to_z-of_z c.ranges.net) c.write_signed_field-end.ensures) (44 ∷ signed_figure (to_z w64 (of_z w64 c.args.money))) (10 ∷ []) (money-as (to_z-of_z c.ranges.money))).fits
 
 pub write_byte-requires : goal.write_byte-requires
 write_byte-requires c =
-    omega (arith, (left-fits (at_end (shown c.args.submarket c.args.number) c.args.figures.now c.args.net c.args.money c.requires c.write_leading-end.ensures (to_z-of_z c.ranges.net) c.write_signed_field-end.ensures (to_z-of_z c.ranges.money) c.write_signed_field-end-2.ensures) refl).fits)
+    omega (arith, (left-fits (at_end c.args.plant.now c.args.figures.now c.args.net c.args.money c.requires c.write_leading-end.ensures (to_z-of_z c.ranges.net) c.write_signed_field-end.ensures (to_z-of_z c.ranges.money) c.write_signed_field-end-2.ensures) refl).fits)
 
 pub returns : goal.returns
 returns c =
-    left-last (at_end (shown c.args.submarket c.args.number) c.args.figures.now c.args.net c.args.money c.requires c.write_leading-end.ensures (to_z-of_z c.ranges.net) c.write_signed_field-end.ensures (to_z-of_z c.ranges.money) c.write_signed_field-end-2.ensures) refl c.write_byte.ensures
+    left-last (at_end c.args.plant.now c.args.figures.now c.args.net c.args.money c.requires c.write_leading-end.ensures (to_z-of_z c.ranges.net) c.write_signed_field-end.ensures (to_z-of_z c.ranges.money) c.write_signed_field-end-2.ensures) refl c.write_byte.ensures

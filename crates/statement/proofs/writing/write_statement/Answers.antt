@@ -1,15 +1,13 @@
 -- `writing::write_statement` meets its contract. Assumes nothing.
-use mathlib.Core.Path.{◌≡◌, refl, sym, ap₂}
-use mathlib.Core.List.{List, [], ◌++◌}
+use mathlib.Core.Path.{◌≡◌, refl, sym, ap}
+use mathlib.Core.List.{List, ◌++◌}
 use Prim.Native.Nat.{ℕ, ◌≤◌}
 use native.Mathlib.Omega.{arith}
 use lib.ListN.{length}
 use Rattle.lists.specs.Lists.{sum}
 use Rattle.lists.specs.Columns.{four}
 use Rattle.figures.specs.Figures.{Wrote}
-use Rattle.hour.specs.Table.{plants_of}
-use Rattle.hour.proofs.Table.{length-plants}
-use Rattle.hour.specs.declared.Plant.{Plant}
+use Rattle.plants.specs.declared.Plant.{Plant}
 use Rattle.ledger.specs.Ledger.{Ledger, allotted_in}
 use Rattle.statement.specs.Statement.{plant_lines, total_line, statement_text}
 use Rattle.statement.specs.Lengths.{statement_length}
@@ -31,9 +29,8 @@ module _ (settled : ℕ) (plants : List Plant) (l : Ledger) where
     at-total w = left-more at-start _ _ refl w
 
 -- the T line of the sums that were worked
-total-is : (settled : ℕ) (ss ns : List ℕ) (l : Ledger) {columns : List ℕ} → columns ≡ four (λ s. sum (allotted_in s l))
-    → total settled (plants_of ss ns [] [] []) l ≡ total_line settled (length ss) columns
-total-is settled ss ns l e = ap₂ (total_line settled) (length-plants ss ns [] [] []) (sym e)
+total-is : (settled : ℕ) (plants : List Plant) (l : Ledger) {columns : List ℕ} → columns ≡ four (λ s. sum (allotted_in s l)) → total settled plants l ≡ total_line settled (length plants) columns
+total-is settled plants l e = ap (total_line settled (length plants)) (sym e)
 
 pub column_sums-columns-requires : goal.column_sums-columns-requires
 column_sums-columns-requires c = sums-asked c.requires.stateable
@@ -47,9 +44,9 @@ write_total_line-requires-clause-columns_bound c = sums_fit c.requires.stateable
 pub write_total_line-requires-clause-room : goal.write_total_line-requires-clause-room
 write_total_line-requires-clause-room c =
     let l : Ledger = record { allotted = c.args.allotted.now; accounts = c.args.accounts.now } in
-    left-fits (at-total c.args.settled (plants_of c.args.submarket.now c.args.number.now [] [] []) l c.requires.room c.write_plant_lines-end.ensures) (total-is c.args.settled c.args.submarket.now c.args.number.now l c.column_sums-columns.ensures)
+    left-fits (at-total c.args.settled c.args.plants.now l c.requires.room c.write_plant_lines-end.ensures) (total-is c.args.settled c.args.plants.now l c.column_sums-columns.ensures)
 
 pub returns : goal.returns
 returns c =
     let l : Ledger = record { allotted = c.args.allotted.now; accounts = c.args.accounts.now } in
-    fills (left-last (at-total c.args.settled (plants_of c.args.submarket.now c.args.number.now [] [] []) l c.requires.room c.write_plant_lines-end.ensures) (total-is c.args.settled c.args.submarket.now c.args.number.now l c.column_sums-columns.ensures) c.write_total_line.ensures)
+    fills (left-last (at-total c.args.settled c.args.plants.now l c.requires.room c.write_plant_lines-end.ensures) (total-is c.args.settled c.args.plants.now l c.column_sums-columns.ensures) c.write_total_line.ensures)

@@ -1,0 +1,2 @@
+-- Laws of the plants' figures.
+pub mod Submarkets

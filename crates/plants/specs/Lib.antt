@@ -1,0 +1,2 @@
+-- The plant table's rows.
+pub mod Plants

@@ -1,0 +1,2 @@
+-- How a function that asks by `?` answers the first no.
+pub mod Asking

@@ -249,11 +249,11 @@ def functions():
 
 
 def called(body, crate, used):
-    """A path begins with a crate, or with what this crate has or takes by `use`; a method may be any crate's."""
+    """A path begins with a crate, or with what this crate has or takes by `use`; a method may be any crate's, and `.into()` calls a `from`."""
     for before, path, name in re.findall(r"(\.)?((?:\w+::)*)(\w+)\(", body):
         first = path.split("::")[0] or name
         if before:
-            yield from ((folder.name, name) for folder in CRATES.iterdir())
+            yield from ((folder.name, "from" if name == "into" else name) for folder in CRATES.iterdir())
         elif path and (CRATES / first).is_dir():
             yield (first, name)
         else:

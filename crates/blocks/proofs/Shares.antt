@@ -4,7 +4,7 @@ use mathlib.Core.Bool.{cond}
 use mathlib.Core.Logic.{by_cases}
 use mathlib.Core.List.{List, [], ◌++◌, append-nil}
 use Prim.Native.Nat.{ℕ, ◌+◌, ◌-◌, ◌*◌, ◌≤◌, ◌<◌}
-use native.Mathlib.Nat.{le_of_eq, le_refl, sub-zero, add-sub_cancel}
+use native.Mathlib.Nat.{le_of_eq, sub-zero, add-sub_cancel}
 use native.Mathlib.Omega.{arith}
 use native.Mathlib.Decide.{dec_lt}
 use lib.Dec.{eqb}
@@ -14,9 +14,9 @@ use Rattle.lists.specs.Lists.{sum}
 use Rattle.lists.specs.Columns.{◌⊖◌, Below}
 use Rattle.lists.proofs.Parts.{part_at, part-back, take-le, past_take}
 use Rattle.lists.proofs.Rows.{at-replicate}
-use Rattle.lists.proofs.Columns.{◌!◌, at-⊖, sum_tight, length-rowwise, rowwise-nothing}
-use Rattle.sharing.specs.Sharing.{share}
-use Rattle.sharing.proofs.Sharing.{share-lawful, adds-le}
+use Rattle.lists.proofs.Columns.{◌!◌, at-⊖, length-rowwise, rowwise-nothing}
+use Rattle.sharing.specs.Sharing.{share, up_to_weights}
+use Rattle.sharing.proofs.Sharing.{share-lawful, up_to_share}
 use Rattle.blocks.specs.Blocks.{standing_at, Raised, in_column, in_columns, Room}
 use Rattle.blocks.proofs.Slices.{Rising, block, end_below, row_in}
 use Rattle.blocks.proofs.Handed.{no_rise, raise_nothing}
@@ -28,19 +28,13 @@ module _ (n : ℕ) (want : List ℕ) (short : n ≤ length want) where
   pub zero_parts : (t : ℕ) → t ≡ 0 → (i : ℕ) → share t (take n want) ! i ≡ 0
   zero_parts t e i = ap (λ (t : ℕ). share t (take n want) ! i) e ∙ ap (λ l. l ! i) (share-lawful.nothing (take n want)) ∙ at-replicate (length (take n want)) i 0
 
+  -- what is lent on after sharing
+  pub front_parts : (t : ℕ) (ys : List ℕ) {p : List ℕ} → t ≤ sum (take n want) → p ≡ up_to_weights share t (take n want) ++ ys → take n p ≡ share t (take n want)
+  front_parts t ys h e = ap (take n) (e ∙ ap (λ l. l ++ ys) (up_to_share t (take n want) h)) ∙ take_at (share t (take n want)) ys n (parts-length t)
+
   -- no part above its want
   pub parts_below : (t : ℕ) → t ≤ sum (take n want) → Below (share t (take n want)) want
   parts_below t h i = let a = share-lawful.bounded t (take n want) h i in let b = take-le n want i in omega arith
-
--- the whole sum shared: each part is its weight
-pub share_whole : (ws : List ℕ) → share (sum ws) ws ≡ ws
-share_whole ws =
-    ext_get_or 0 (share (sum ws) ws) ws (share-lawful.sized (sum ws) ws)
-    (λ i _. sum_tight (share (sum ws) ws) ws (share-lawful.bounded (sum ws) ws (le_refl (sum ws))) (le_of_eq (sym (adds-le share-lawful (sum ws) ws (le_refl (sum ws))))) i)
-
--- what is lent on after sharing
-pub front_parts : (n : ℕ) (xs ys : List ℕ) {p : List ℕ} → p ≡ xs ++ ys → length xs ≡ n → take n p ≡ xs
-front_parts n xs ys e h = ap (take n) e ∙ take_at xs ys n h
 
 -- ---- a list whose part from row a on was lent as x, and has come back
 module _ (l x : List ℕ) (a : ℕ) (inside : a ≤ length l) where

@@ -1,7 +1,7 @@
 // Each submarket's rows form one block (document 01): where the blocks start, their sums, and an amount for each shared over its rows.
 #![tactic(auto)]
 
-ghost use Rattle.std.specs.Prelude.{◌≡◌, ℕ, ◌++◌, ◌+◌, ◌*◌, ◌^◌, ◌≤◌, ◌<◌, leb, length, take, take_while, drop, get_or};
+ghost use Rattle.std.specs.Prelude.{◌≡◌, ℕ, ◌+◌, ◌*◌, ◌^◌, ◌≤◌, ◌<◌, leb, length, take, take_while, get_or};
 ghost use Rattle.lists.specs.Lists.{sum, Within};
 ghost use Rattle.lists.specs.Columns.{◌⊖◌, Below, totals};
 ghost use Rattle.sharing.specs.Sharing.{share};
@@ -10,6 +10,7 @@ ghost use Rattle.blocks.specs.Blocks.{block_starts, standing_at, Raised, in_colu
 ghost use Rattle.plants.specs.Plants.{submarkets_of};
 
 use plants::Plant;
+use sharing::Weights;
 
 // How many plants, from the first on, stand in submarkets up to s.
 fn leading(s: u64, plants: &[Plant]) -> usize
@@ -36,27 +37,17 @@ fn hand_over(column: usize, part: &[u64], want: &mut [u64], figures: &mut [u64])
     ensures want_after { want.new ≡ want.old ⊖ part.now }
     ensures raised { Raised (in_column column part.now) figures.old figures.new }
 {
+    // by index: of what a loop over a zip of `iter_mut` wrote, nothing is known after it
     for (i, p) in part.iter().enumerate() {
         want[i] -= *p;
         figures[4 * i + column] += *p;
     }
 }
 
-// Shares an amount over the wants, whose sum is total, into the front of part. An amount that is the whole sum needs no division.
-#[tactic(auto, using(crate::proofs::Shares::share_whole))]
-fn parts_into(amount: u64, total: u64, want: &[u64], part: &mut [u64])
-    requires { (total ≡ sum want.now) × (total < 2 ^ 62) × (length want.now ≤ length part.old) }
-    ensures { part.new ≡ share amount want.now ++ drop (length want.now) part.old }
-{
-    if amount == total {
-        lists::copy_into(want, part);
-    } else {
-        sharing::share_into(amount, total, want, part);
-    }
-}
-
-// Shares an amount over the wants of the first n rows, whose sum is total, and hands it over.
-// The three lists are no struct: the prover does not cover a call that lends on parts of two fields in a struct again.
+// Shares an amount over the wants of the first n rows, whose sum is total, and hands it over. The count stands beside the lists because they are lent from
+// the block's first row onward, the form that document 01 names. The three lists are no struct, here, in `share` and in cover: parts of them are lent on
+// apart, and each contract would want one clause more, that the lists are the same ones after the call.
+#[tactic(auto, using(crate::proofs::Shares::front_parts))]
 fn share_block(
     amount: u64,
     total: u64,
@@ -74,7 +65,11 @@ fn share_block(
     if amount == 0 {
         return;
     }
-    parts_into(amount, total, &want[..n], part);
+    let wants = Weights {
+        figures: &want[..n],
+        total,
+    };
+    sharing::share_up_to(amount, wants, part);
     hand_over(column, &part[..n], want, figures);
 }
 
@@ -101,7 +96,7 @@ impl Blocks {
         lists::sum_of(&figures[self.starts[s]..self.starts[s + 1]])
     }
 
-    // The sums of the submarkets' rows.
+    // The sums of the submarkets' rows. (By hand, for the reason at `cover::rest_of`.)
     #[tactic(auto, unfolding(lists::specs::Columns::totals))]
     pub fn sums(self, figures: &[u64]) -> [u64; 4]
         requires { (length figures.now ≡ get_or self.starts 4 0) × (sum figures.now < 2 ^ 62) }
@@ -132,6 +127,7 @@ impl Blocks {
         ensures want_after { want.new ≡ want.old ⊖ portion share (standing_at self.starts) amounts want.old }
         ensures raised { Raised (in_columns columns (standing_at self.starts) (portion share (standing_at self.starts) amounts want.old)) figures.old figures.new }
     {
+        // by index: three arrays stand side by side, and a fourth gives each block's start and the next
         for s in 0..4 {
             let a = self.starts[s];
             share_block(

@@ -13,6 +13,7 @@ ghost use Rattle.cover.specs.Cover.{table, rest, supplied};
 ghost use Rattle.cover.specs.Givers.{got_by, SentWithin};
 
 use blocks::Blocks;
+use std::array;
 
 // Step 6, givers in order: what each sent is shared over the needs that are still open, which then fall.
 fn serve_rows(
@@ -40,15 +41,11 @@ fn serve_rows(
 fn own_of(have: [u64; 4], need: [u64; 4]) -> [u64; 4]
     ensures { result ≡ have ⊓ need }
 {
-    [
-        have[0].min(need[0]),
-        have[1].min(need[1]),
-        have[2].min(need[2]),
-        have[3].min(need[3]),
-    ]
+    array::from_fn(|s| have[s].min(need[s]))
 }
 
-// What is left to each submarket after what it sent.
+// What is left to each submarket after what it sent. The four sums by hand: from `from_fn` each one's bound is owed in a closure at any place,
+// and the check doesn't find it there.
 fn rest_of(left: [u64; 4], table: [[u64; 4]; 4]) -> [u64; 4]
     requires { Below (four (λ s. row_sum table (s - 1))) left × (sum left < 2 ^ 62) }
     ensures { result ≡ left ⊖ four (λ s. row_sum table (s - 1)) }

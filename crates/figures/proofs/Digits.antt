@@ -76,3 +76,7 @@ module _ (f : List ℕ) where
     pub figure-digits : {answer : Option ℕ} → z ≡ false → ReadAs (every is_digit f) f answer → ReadAs (is_figure f) f answer
     unfolding is_figure
     figure-digits t r = rw (sized, ← e, t) r
+
+pub ruleset figure_asked = (figure_unsized, figure-leading, figure-digits, limits)
+
+pub ruleset digits_read = (reading_fits, reading_stopped, read_whole)

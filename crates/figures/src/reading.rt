@@ -4,6 +4,7 @@ ghost use Rattle.lists.specs.Lists.{every};
 ghost use Rattle.figures.specs.Figures.{is_digit, leading_zero, is_figure, ReadAs};
 
 // The digits of a field that is short enough for its figure to fit.
+#[tactic(auto, using(crate::proofs::Digits::digits_read))]
 fn read_digits(field: &[u8]) -> Option<u64>
     requires { length field.now ≤ 19 }
     ensures { ReadAs (every is_digit field.now) field.now result }
@@ -18,6 +19,7 @@ fn read_digits(field: &[u8]) -> Option<u64>
     Some(value)
 }
 
+#[tactic(auto, using(lists::proofs::Questions::tests), unfolding(crate::specs::Figures::leading_zero))]
 fn has_leading_zero(field: &[u8]) -> bool
     ensures { result ≡ leading_zero field.now }
 {
@@ -25,6 +27,7 @@ fn has_leading_zero(field: &[u8]) -> bool
 }
 
 // The figure of a field: question 29 of its bytes.
+#[tactic(auto, using(crate::proofs::Digits::figure_asked))]
 pub fn read_figure(field: &[u8]) -> Option<u64>
     ensures { ReadAs (is_figure field.now) field.now result }
 {

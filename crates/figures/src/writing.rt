@@ -1,9 +1,9 @@
 // Figures written: the shortest decimal, a minus before one below zero. Every function answers the position behind what it wrote.
 // Text and position stay two parameters: a struct of them (tried) wants a second clause in each contract, that its reference stays the same.
-ghost use Rattle.std.specs.Prelude.{◌≡◌, [], ◌∷◌, suc, ◌+◌, ◌≤◌, ◌<◌, length};
-ghost use Rattle.figures.specs.Figures.{figure, figure_length, signed_figure, signed_figure_length, Wrote};
+ghost use Rattle.std.specs.Prelude.{◌≡◌, ℕ, List, [], ◌∷◌, suc, ◌+◌, ◌≤◌, ◌<◌, length};
+ghost use Rattle.figures.specs.Figures.{figure, figure_length, signed_figure, Wrote};
 
-// How many bytes the figure takes.
+// How many bytes the figure takes, by std's logarithm.
 #[tactic(auto, using(crate::proofs::Decimal::length_by_log))]
 pub fn figure_length(x: u64) -> usize
     ensures { result ≡ figure_length x }
@@ -11,35 +11,49 @@ pub fn figure_length(x: u64) -> usize
     x.max(1).ilog10() as usize + 1
 }
 
-// Writes the figure from a position on, last digit first. By hand: of the kit this project links std alone, whose Display wants a writer with
-// ghost members and answers a Result.
-pub fn write_figure(x: u64, text: &mut [u8], at: usize) -> usize
-    requires { at + figure_length x ≤ length text.old }
-    ensures { Wrote (figure x) at text.old text.new result }
-{
-    let end = at + figure_length(x);
-    let mut rest = x;
-    for i in (at..end).rev() {
-        text[i] = b'0' + (rest % 10) as u8;
-        rest /= 10;
-    }
-    end
+// A number as a figure, signed or not: its text, and how it is written from a position on.
+pub trait Figure: Copy {
+    ghost digits: { Self → List ℕ };
+
+    fn write(self, text: &mut [u8], at: usize) -> usize
+        requires { at + length (digits self) ≤ length text.old }
+        ensures { Wrote (digits self) at text.old text.new result };
 }
 
-// Writes the signed figure from a position on.
-pub fn write_signed_figure(z: i64, text: &mut [u8], at: usize) -> usize
-    requires { at + signed_figure_length z ≤ length text.old }
-    ensures { Wrote (signed_figure z) at text.old text.new result }
-{
-    let x = signed::magnitude(z);
-    if z < 0 {
-        text[at] = b'-';
-        return write_figure(x, text, at + 1);
+// Last digit first, by hand. (std's Display, tried by `write!` to the bytes and by `InlineText::of`: no clause of theirs says that a figure with room is
+// written whole, so the contract is not proved. The kit's `itoa` is no part of std, which alone this project links.)
+impl Figure for u64 {
+    ghost digits = { figure };
+
+    #[tactic(auto, using(crate::proofs::Decimal::writing, crate::proofs::Decimal::wrote), unfolding(crate::specs::Figures::figure_length))]
+    fn write(self, text: &mut [u8], at: usize) -> usize {
+        let end = at + figure_length(self);
+        let mut rest = self;
+        // (By index: tried, after `iter_mut().rev()` a proof knows none of the bytes.)
+        for i in (at..end).rev() {
+            text[i] = b'0' + (rest % 10) as u8;
+            rest /= 10;
+        }
+        end
     }
-    write_figure(x, text, at)
+}
+
+// A minus where it is below zero; the same reason as above.
+impl Figure for i64 {
+    ghost digits = { signed_figure };
+
+    fn write(self, text: &mut [u8], at: usize) -> usize {
+        let x = signed::magnitude(self);
+        if self < 0 {
+            text[at] = b'-';
+            return x.write(text, at + 1);
+        }
+        x.write(text, at)
+    }
 }
 
 // Writes one byte.
+#[tactic(auto, using(crate::proofs::Written::wrote_byte))]
 pub fn write_byte(b: u8, text: &mut [u8], at: usize) -> usize
     requires { at < length text.old }
     ensures { Wrote (b ∷ []) at text.old text.new result }
@@ -49,19 +63,10 @@ pub fn write_byte(b: u8, text: &mut [u8], at: usize) -> usize
 }
 
 // Writes a comma and the figure.
-pub fn write_field(x: u64, text: &mut [u8], at: usize) -> usize
-    requires { at + suc (figure_length x) ≤ length text.old }
-    ensures { Wrote (44 ∷ figure x) at text.old text.new result }
+pub fn write_field<F: Figure>(x: F, text: &mut [u8], at: usize) -> usize
+    requires { at + suc (length (F.digits x)) ≤ length text.old }
+    ensures { Wrote (44 ∷ F.digits x) at text.old text.new result }
 {
     let next = write_byte(b',', text, at);
-    write_figure(x, text, next)
-}
-
-// Writes a comma and the signed figure. (A trait over the two types, with their texts, would be longer than these two lines.)
-pub fn write_signed_field(z: i64, text: &mut [u8], at: usize) -> usize
-    requires { at + suc (signed_figure_length z) ≤ length text.old }
-    ensures { Wrote (44 ∷ signed_figure z) at text.old text.new result }
-{
-    let next = write_byte(b',', text, at);
-    write_signed_figure(z, text, next)
+    x.write(text, next)
 }

@@ -4,9 +4,11 @@
 ghost use Rattle.std.specs.Prelude.{◌≡◌};
 ghost use Rattle.refusals.specs.Numbers.{number};
 ghost use Rattle.file_lines.specs.State.{kept, Lent, Gathering, Counted, Settling, Valid};
+ghost use Rattle.file_lines.specs.Lists.{viewed_lists};
 ghost use Rattle.month_file.specs.Run.{place};
 ghost use Rattle.file_calls.specs.Checking.{Decides, FileRoom, FileNumber, FedAny, FinishNumber, finish_answer, FinishedAny};
 
+use file_lines::lent::{FileView, LentFile};
 use file_lines::{FileStage, MonthFile};
 use ledger::{ACCOUNTS, ALLOTTED};
 use lines::fields::LONGEST;
@@ -17,30 +19,24 @@ use month_file::feeding::feed;
 use month_file::finishing::finish;
 use plants::Plant;
 use questions::{ask_rows, periods_in_limits};
-use refusals::{Refusal, ask};
+use refusals::{Refusal, ask, told};
 
 // Are the lists of what was read long enough for every month?
-fn are_lent(plants: &[Plant], profile: &[u64], allotted: &[u64], accounts: &[i64]) -> bool
-    ensures { Decides (Lent (kept plants.now profile.now allotted.now accounts.now)) result }
+fn are_lent(lists: FileView<'_>) -> bool
+    ensures { Decides (Lent (viewed_lists lists.entry)) result }
 {
-    PLANTS <= plants.len()
-        && PERIODS <= profile.len()
-        && ALLOTTED * PLANTS <= allotted.len()
-        && ACCOUNTS * PLANTS <= accounts.len()
+    PLANTS <= lists.plants.len()
+        && PERIODS <= lists.profile.len()
+        && ALLOTTED * PLANTS <= lists.allotted.len()
+        && ACCOUNTS * PLANTS <= lists.accounts.len()
 }
 
-// ... and the list of the line that has begun?
-fn is_room(
-    file: MonthFile,
-    line: &[u8],
-    plants: &[Plant],
-    profile: &[u64],
-    allotted: &[u64],
-    accounts: &[i64],
-) -> bool
-    ensures { Decides (FileRoom (place file (kept plants.now profile.now allotted.now accounts.now) line.now)) result }
+// ... and the list of the line that has begun? State, line and lists are no struct: C lends them apart, and `finish` reads the lists with the state after
+// the line.
+fn is_room(file: MonthFile, line: &[u8], lists: FileView<'_>) -> bool
+    ensures { Decides (FileRoom (place file (viewed_lists lists.entry) line.now)) result }
 {
-    LONGEST <= line.len() && are_lent(plants, profile, allotted, accounts)
+    LONGEST <= line.len() && are_lent(lists)
 }
 
 // Among P and H lines: sizes in limits, and every line counted?
@@ -67,33 +63,21 @@ fn is_counted(month: Month, count: u64) -> bool
 }
 
 // ... 5 to 8 passed by the table, and the ledger in its bounds?
-fn is_settling(
-    file: MonthFile,
-    plants: &[Plant],
-    profile: &[u64],
-    allotted: &[u64],
-    accounts: &[i64],
-) -> bool
-    requires { Lent (kept plants.now profile.now allotted.now accounts.now) }
-    ensures { Decides (Settling file (kept plants.now profile.now allotted.now accounts.now)) result }
+fn is_settling(file: MonthFile, lists: FileView<'_>) -> bool
+    requires { Lent (viewed_lists lists) }
+    ensures { Decides (Settling file (viewed_lists lists.entry)) result }
 {
     let month = file.month;
     let rows = month.plants as usize;
     is_counted(month, file.count)
-        && ask_rows(&plants[..rows]).is_ok()
-        && ledger::in_bounds(&allotted[..ALLOTTED * rows], &accounts[..ACCOUNTS * rows])
+        && ask_rows(&lists.plants[..rows]).is_ok()
+        && lists.ledger_of(rows).in_bounds()
 }
 
 // Do state and lists fit together, as after `fresh` and every feed?
-fn is_valid(
-    file: MonthFile,
-    plants: &[Plant],
-    profile: &[u64],
-    allotted: &[u64],
-    accounts: &[i64],
-) -> bool
-    requires { Lent (kept plants.now profile.now allotted.now accounts.now) }
-    ensures { Decides (Valid file (kept plants.now profile.now allotted.now accounts.now)) result }
+fn is_valid(file: MonthFile, lists: FileView<'_>) -> bool
+    requires { Lent (viewed_lists lists) }
+    ensures { Decides (Valid file (viewed_lists lists.entry)) result }
 {
     if LONGEST < file.length {
         return false;
@@ -101,33 +85,21 @@ fn is_valid(
     match file.stage {
         FileStage::First => file.count == 0,
         FileStage::Gathering => is_gathering(file),
-        FileStage::Metering => is_settling(file, plants, profile, allotted, accounts),
+        FileStage::Metering => is_settling(file, lists),
         FileStage::Refused => true,
     }
 }
 
 // 30 and 31 of a feed.
-fn ask_file(
-    file: MonthFile,
-    line: &[u8],
-    plants: &[Plant],
-    profile: &[u64],
-    allotted: &[u64],
-    accounts: &[i64],
-) -> Result<(), Refusal>
-    ensures { FileNumber (place file (kept plants.now profile.now allotted.now accounts.now) line.now) (number result) }
+fn ask_file(file: MonthFile, line: &[u8], lists: FileView<'_>) -> Result<(), Refusal>
+    ensures { FileNumber (place file (viewed_lists lists.entry) line.now) (number result) }
 {
-    ask(
-        is_room(file, line, plants, profile, allotted, accounts),
-        Refusal::ListLength,
-    )?;
-    ask(
-        is_valid(file, plants, profile, allotted, accounts),
-        Refusal::OutOfTurn,
-    )
+    ask(is_room(file, line, lists), Refusal::ListLength)?;
+    ask(is_valid(file, lists), Refusal::OutOfTurn)
 }
 
-// One part of the file, with a state and lists that may hold anything. Refused, the state is left as it was.
+// One part of the file, with a state and lists that may hold anything. Refused, the state is left as it was. The lists come apart, as C lends them: they
+// are a file's once they are asked.
 pub fn feed_any(
     file: &mut MonthFile,
     part: &[u8],
@@ -139,35 +111,35 @@ pub fn feed_any(
 ) -> Result<(), Refusal>
     ensures { FedAny (place file.old (kept plants.old profile.old allotted.old accounts.old) line.old) part.now (number result) (place file.new (kept plants.new profile.new allotted.new accounts.new) line.new) }
 {
-    ask_file(*file, line, plants, profile, allotted, accounts)?;
-    *file = feed(*file, part, line, plants, profile, allotted, accounts);
+    let lists = FileView {
+        plants,
+        profile,
+        allotted,
+        accounts,
+    };
+    ask_file(*file, line, lists)?;
+    let mut lent = LentFile {
+        state: *file,
+        plants,
+        profile,
+        allotted,
+        accounts,
+    };
+    feed(&mut lent, part, line);
+    *file = lent.state;
     Ok(())
 }
 
 // 30, 22 and 31 of a finish.
-fn ask_finish(
-    file: MonthFile,
-    line: &[u8],
-    plants: &[Plant],
-    profile: &[u64],
-    allotted: &[u64],
-    accounts: &[i64],
-    text: &[u8],
-) -> Result<(), Refusal>
-    ensures { FinishNumber (place file (kept plants.now profile.now allotted.now accounts.now) line.now) text.now (number result) }
+fn ask_finish(file: MonthFile, line: &[u8], lists: FileView<'_>, text: &[u8]) -> Result<(), Refusal>
+    ensures { FinishNumber (place file (viewed_lists lists.entry) line.now) text.now (number result) }
 {
-    ask(
-        is_room(file, line, plants, profile, allotted, accounts),
-        Refusal::ListLength,
-    )?;
+    ask(is_room(file, line, lists), Refusal::ListLength)?;
     ask(
         room_for(PLANTS as u64) <= text.len() as u64,
         Refusal::TextRoom,
     )?;
-    ask(
-        is_valid(file, plants, profile, allotted, accounts),
-        Refusal::OutOfTurn,
-    )
+    ask(is_valid(file, lists), Refusal::OutOfTurn)
 }
 
 // What a finish answers, as C reads it: the number, and how many bytes were written.
@@ -181,16 +153,12 @@ pub struct FinishAnswer {
 impl From<Result<usize, Refusal>> for FinishAnswer {
     ghost from_gives = { λ answer c. c ≡ finish_answer answer };
 
+    #[tactic(auto, unfolding(refusals::specs::Numbers::told))]
     fn from(answer: Result<usize, Refusal>) -> FinishAnswer {
-        match answer {
-            Ok(length) => FinishAnswer {
-                number: 0,
-                length: length as u64,
-            },
-            Err(refusal) => FinishAnswer {
-                number: refusal.number(),
-                length: 0,
-            },
+        let (number, length) = told(answer, 0);
+        FinishAnswer {
+            number,
+            length: length as u64,
         }
     }
 }
@@ -199,15 +167,11 @@ impl From<Result<usize, Refusal>> for FinishAnswer {
 pub fn finish_any(
     file: MonthFile,
     line: &[u8],
-    plants: &[Plant],
-    profile: &[u64],
-    allotted: &[u64],
-    accounts: &[i64],
+    lists: FileView<'_>,
     text: &mut [u8],
 ) -> Result<usize, Refusal>
-    ensures { FinishedAny (place file (kept plants.now profile.now allotted.now accounts.now) line.now) text.old (finish_answer result) text.new }
+    ensures { FinishedAny (place file (viewed_lists lists.entry) line.now) text.old (finish_answer result) text.new }
 {
-    ask_finish(file, line, plants, profile, allotted, accounts, text)?;
-    let written = finish(file, line, plants, profile, allotted, accounts, text);
-    Ok(written)
+    ask_finish(file, line, lists, text)?;
+    Ok(finish(file, line, lists, text))
 }

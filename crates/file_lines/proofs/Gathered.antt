@@ -13,7 +13,7 @@ use Rattle.plants.specs.declared.Plant.{Plant}
 use Rattle.file_lines.specs.declared.FileStage.TheVariants as stage
 use Rattle.file_lines.specs.declared.MonthFile.{MonthFile}
 use Rattle.file_lines.specs.File.{Progress, gathers, plant_of, opened, taken}
-use Rattle.file_lines.specs.State.{Kept, kept, sizes_of, progress_at, progress_of, Lent, Gathering, Valid, Moved, at_stage, Openable, opened_of}
+use Rattle.file_lines.specs.State.{Kept, kept, sizes_of, progress_at, progress_of, Lent, Gathering, Valid, Moved, at_stage, opened_of}
 use Rattle.file_lines.proofs.Moves.{lent_as, gathered, moved_as, gathers_moved}
 
 pub gathers_is : (f : MonthFile) (k : Kept) → f.stage ≡ stage.Gathering → progress_of f k ≡ gathers (sizes_of f) (take f.rows k.plants) (take f.figures k.profile)
@@ -108,10 +108,6 @@ module _ {f : MonthFile} {k : Kept} (gathering : f.stage ≡ stage.Gathering) (v
     module _ (m : f.periods ≤ f.figures + 1) where
       last : f.figures + 1 ≡ f.periods
       last = omega (arith, g.figures, m)
-
-      pub openable : Openable f longer
-      openable =
-          record { lent = lent_longer; plants = g.plants; periods = g.periods; counted = omega (arith, g.counted, all_rows, last) }
 
       opens : opened_of f longer ≡ due
       unfolding opened_of

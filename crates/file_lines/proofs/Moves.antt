@@ -19,7 +19,7 @@ use Rattle.file_lines.specs.declared.FileStage.TheVariants.{First, Metering, Ref
 use Rattle.file_lines.specs.declared.MonthFile.{MonthFile}
 use Rattle.file_lines.specs.File as file
 use Rattle.file_lines.specs.File.{Progress, gathers, begun}
-use Rattle.file_lines.specs.State.{Kept, progress_at, progress_of, Lent, Gathering, Settling, Valid, Moved, at_start, at_stage, monthed, at_refusal, at_call}
+use Rattle.file_lines.specs.State.{Kept, progress_at, progress_of, Lent, Gathering, Settling, Valid, Moved, at_stage, monthed, at_refusal, at_call}
 
 -- lists of the same lengths
 pub lent_as : {k q : Kept} → Lent k → length q.plants ≡ length k.plants → length q.profile ≡ length k.profile
@@ -63,13 +63,6 @@ module _ (f : MonthFile) (k : Kept) (lent : Lent k) (h : f.length ≤ 8192) wher
 -- a month's default
 pub blank_is : (m : Month) → (m.stage ≡ Blank) × ((m.plants ≡ 0) × ((m.periods ≡ 0) × ((m.tariff ≡ 0) × (m.due ≡ 0)))) → m ≡ blank
 blank_is m h = λ i. record { stage = h.0 i; plants = h.1.0 i; periods = h.1.1.0 i; tariff = h.1.1.1.0 i; due = h.1.1.1.1 i }
-
--- before the first byte
-pub started : (m : Month) → m ≡ blank
-    → ◌≡◌ {A = MonthFile}
-    (record { stage = First; length = 0; count = 0; plants = 0; periods = 0; tariff = 0; rows = 0; figures = 0; month = m; number = 0 })
-    at_start
-started m e = ap (λ (b : Month). record { stage = First; length = 0; count = 0; plants = 0; periods = 0; tariff = 0; rows = 0; figures = 0; month = b; number = 0 }) e
 
 -- a state with other sizes and lines taken
 abbrev pub gathered : MonthFile → ℕ → ℕ → ℕ → ℕ → ℕ → MonthFile

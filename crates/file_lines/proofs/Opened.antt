@@ -5,7 +5,7 @@ use mathlib.Core.List.{List, ◌++◌}
 use Prim.Native.Nat.{ℕ, ◌+◌, ◌*◌, ◌≤◌}
 use native.Mathlib.Omega.{arith}
 use lib.IntN.{ℤ, pos}
-use lib.ListN.{length, take, drop, length-replicate}
+use lib.ListN.{length, take, drop, length-replicate, take-append-drop}
 use lib.Seq.{length-take-le, length_front, take_at}
 use Rattle.lists.specs.Questions.{outcome}
 use Rattle.lists.proofs.Questions.{accepted}
@@ -37,6 +37,11 @@ open_alike m plants profile t l g p q = rw (p, q)
 abbrev pub with_ledger : Kept → ℕ → List ℕ → List ℤ → Kept
 with_ledger k p ys zs =
     kept k.plants k.profile (ys ++ drop (4 * p) k.allotted) (zs ++ drop (2 * p) k.accounts)
+
+-- ... and the other lists put together from the front that was lent and the rest
+abbrev pub put_back : Kept → ℕ → ℕ → List ℕ → List ℤ → Kept
+put_back k p n ys zs =
+    kept (take p k.plants ++ drop p k.plants) (take n k.profile ++ drop n k.profile) (ys ++ drop (4 * p) k.allotted) (zs ++ drop (2 * p) k.accounts)
 
 -- the ledger of n plants has four figures and two accounts for each
 pub ledger-long : (k : Kept) → Lent k → (n : ℕ) → n ≤ 512 → Lengths n (ledger_of n k)
@@ -165,6 +170,7 @@ pub opening_answered : {f : MonthFile} {k : Kept} → Openable f k → {m : Mont
     → ◌≡◌ {A = OpenEnd} (record { answer = end; ledger = record { allotted = ys; accounts = zs } })
     (open_call m (take f.plants k.plants) (take f.periods k.profile) f.tariff (record { allotted = take (4 * f.plants) k.allotted; accounts = take (2 * f.plants) k.accounts }))
     → length ys ≡ length (take (4 * f.plants) k.allotted) → length zs ≡ length (take (2 * f.plants) k.accounts)
-    → {r : MonthFile} → r ≡ at_call f end.number end.month → Moved f (opened_of f k) r (with_ledger k f.plants ys zs)
+    → {r : MonthFile} → r ≡ at_call f end.number end.month → Moved f (opened_of f k) r (put_back k f.plants f.periods ys zs)
 unfolding ledger_of
-opening_answered o b e many more q = opening_called _ _ o _ _ _ (rw (sym b) e) many more q
+opening_answered {f} {k} o b e many more q =
+    rw (take-append-drop f.plants k.plants, take-append-drop f.periods k.profile) (opening_called _ _ o _ _ _ (rw (sym b) e) many more q)

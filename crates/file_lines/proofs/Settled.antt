@@ -5,7 +5,7 @@ use mathlib.Core.List.{List}
 use Prim.Native.Nat.{ℕ, ◌+◌, ◌*◌}
 use native.Mathlib.Omega.{arith}
 use lib.IntN.{ℤ}
-use lib.ListN.{length, take, replicate, length-replicate}
+use lib.ListN.{length, take, replicate, length-replicate, take-append-drop}
 use lib.Seq.{length-take-le}
 use Rattle.lists.specs.Questions.{outcome}
 use Rattle.lists.proofs.Questions.{accepted}
@@ -28,7 +28,7 @@ use Rattle.file_lines.specs.File as file
 use Rattle.file_lines.specs.File.{settles, settled}
 use Rattle.file_lines.specs.State.{Kept, ledger_of, Lent, Settling, Valid, Moved, at_stage, monthed, at_refusal, at_call, settled_of}
 use Rattle.file_lines.proofs.Moves.{moved_as, refuses-by, called}
-use Rattle.file_lines.proofs.Opened.{with_ledger, lent-after, ledger-after, settles_moved}
+use Rattle.file_lines.proofs.Opened.{with_ledger, put_back, lent-after, ledger-after, settles_moved}
 
 -- of the allotment list settle asks the length alone
 settle_alike : (m : Month) (plants : List Plant) (profile metered lent other : List ℕ) (l : Ledger) → length lent ≡ length other
@@ -154,9 +154,10 @@ pub settling_answered : {f : MonthFile} {k : Kept} → f.stage ≡ Metering → 
     (settle_call f.month (take f.month.plants k.plants) (take f.month.periods k.profile) metered (take (4 * f.month.plants) (replicate 2048 0))
     (record { allotted = take (4 * f.month.plants) k.allotted; accounts = take (2 * f.month.plants) k.accounts }))
     → length ys ≡ length (take (4 * f.month.plants) k.allotted) → length zs ≡ length (take (2 * f.month.plants) k.accounts)
-    → {g : MonthFile} → g ≡ at_call f (number r) m → Moved f (settled_of f k metered) g (with_ledger k f.month.plants ys zs)
+    → {g : MonthFile} → g ≡ at_call f (number r) m → Moved f (settled_of f k metered) g (put_back k f.month.plants f.month.periods ys zs)
 unfolding ledger_of
-settling_answered {f} s v metered r m e many more q =
-    settling_called _ _ s v _ _ _ _ _ _
+settling_answered {f} {k} s v metered r m e many more q =
+    rw (take-append-drop f.month.plants k.plants, take-append-drop f.month.periods k.profile)
+    (settling_called _ _ s v _ _ _ _ _ _
     (length-take-le _ (replicate 2048 0) (omega (arith, (v.settling s).counted.plants, length-replicate {A = ℕ} 2048 0))) e many more
-    (q ∙ sym (ap₂ (λ (n : ℕ) (a : Month). at_call f n a) (answer_number r m) (answer_month r m)))
+    (q ∙ sym (ap₂ (λ (n : ℕ) (a : Month). at_call f n a) (answer_number r m) (answer_month r m))))

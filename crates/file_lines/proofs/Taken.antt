@@ -56,13 +56,6 @@ module _ (f : MonthFile) (k : Kept) where
       (ap (settled_of f k) (take_all (length figures - 1) (drop 1 figures) (omega (arith, length-drop 1 figures))) ∙ ap (λ (p : Progress). taken (f.count + 1) p figures) (sym (settles_is e)))
 
 module _ {f : MonthFile} {k : Kept} (v : Valid f k) (due : f.stage ≢ Refused) where
-  -- no month has more lines
-  pub few-lines : f.count < 10000
-  few-lines =
-      before_refusal f.stage due (λ e. omega (arith, v.begun e))
-      (λ e. let g = v.gathering e in omega (arith, g.plants, g.periods, g.rows, g.figures, g.counted))
-      (λ e. let g = (v.settling e).counted in omega (arith, g.plants, g.periods, g.due, g.lines))
-
   pub unrefused : is_refused (progress_of f k) ≡ false
   unfolding is_refused progress_at progress_of
   unrefused = before_refusal f.stage due (λ e. rw e) (λ e. rw e) (λ e. rw e)

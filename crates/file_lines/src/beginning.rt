@@ -4,25 +4,13 @@ ghost use Rattle.file_lines.specs.File.{begun};
 ghost use Rattle.file_lines.specs.State.{Kept, Lent, Moved, at_start};
 
 use crate::{FileStage, MonthFile};
-use month::Month;
 use questions::ask_sizes;
 
 // Before the first byte.
 pub fn fresh() -> MonthFile
     ensures { result ≡ at_start }
 {
-    MonthFile {
-        stage: FileStage::First,
-        length: 0,
-        count: 0,
-        plants: 0,
-        periods: 0,
-        tariff: 0,
-        rows: 0,
-        figures: 0,
-        month: Month::default(),
-        number: 0,
-    }
+    MonthFile::default()
 }
 
 // 2 to 4 on the first line.

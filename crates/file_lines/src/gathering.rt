@@ -2,13 +2,15 @@
 ghost use Rattle.std.specs.Prelude.{◌≡◌, ◌+◌, ◌≤◌, ◌<◌, length};
 ghost use Rattle.file_lines.specs.declared.FileStage.TheVariants as stage;
 ghost use Rattle.file_lines.specs.File.{plant_of, taken};
-ghost use Rattle.file_lines.specs.State.{kept, progress_of, Valid, Moved};
+ghost use Rattle.file_lines.specs.State.{progress_of, Moved};
+ghost use Rattle.file_lines.specs.Lists.{lent_lists, SameLists};
 
+use crate::lent::LentFile;
 use crate::opening::open_month;
 use crate::{FileStage, MonthFile};
 use plants::Plant;
 
-// The plant of a P line's figures.
+// The plant of a P line's figures. No `From`: that a list has five figures no type says.
 #[tactic(auto, unfolding(crate::specs::File::plant_of))]
 fn plant_of(figures: &[u64]) -> Plant
     requires { 5 ≤ length figures.now }
@@ -24,33 +26,29 @@ fn plant_of(figures: &[u64]) -> Plant
 }
 
 // A P line is a row more, an H line a profile figure more.
-pub fn gather(
-    file: MonthFile,
-    figures: &[u64],
-    plants: &mut [Plant],
-    profile: &mut [u64],
-    allotted: &mut [u64],
-    accounts: &mut [i64],
-) -> MonthFile
-    requires stage_value { (file.stage ≡ stage.Gathering) × (2 ≤ length figures.now) × (file.rows < file.plants → 5 ≤ length figures.now) }
-    requires valid { Valid file (kept plants.old profile.old allotted.old accounts.old) }
-    ensures { Moved file (taken (file.count + 1) (progress_of file (kept plants.old profile.old allotted.old accounts.old)) figures.now) result (kept plants.new profile.new allotted.new accounts.new) }
+pub fn gather(file: &mut LentFile<'_, '_, '_, '_>, figures: &[u64])
+    requires { (file.old.state.stage ≡ stage.Gathering) × (2 ≤ length figures.now) × (file.old.state.rows < file.old.state.plants → 5 ≤ length figures.now) }
+    ensures moved { Moved file.old.state (taken (file.old.state.count + 1) (progress_of file.old.state (lent_lists file.old)) figures.now) file.new.state (lent_lists file.new) }
+    ensures same { SameLists file.old file.new }
 {
-    let row = file.rows;
-    if (row as u64) < file.plants {
-        plants[row] = plant_of(figures);
-        return MonthFile {
+    let state = file.state;
+    let row = state.rows;
+    if (row as u64) < state.plants {
+        file.plants[row] = plant_of(figures);
+        file.state = MonthFile {
             rows: row + 1,
-            ..file.at_stage(FileStage::Gathering)
+            ..state.at_stage(FileStage::Gathering)
         };
+        return;
     }
-    let at = file.figures;
-    profile[at] = figures[1];
-    if at as u64 + 1 < file.periods {
-        return MonthFile {
+    let at = state.figures;
+    file.profile[at] = figures[1];
+    if at as u64 + 1 < state.periods {
+        file.state = MonthFile {
             figures: at + 1,
-            ..file.at_stage(FileStage::Gathering)
+            ..state.at_stage(FileStage::Gathering)
         };
+        return;
     }
-    open_month(file, plants, profile, allotted, accounts)
+    open_month(file);
 }

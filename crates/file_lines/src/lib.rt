@@ -10,15 +10,17 @@ use refusals::Refusal;
 
 pub mod beginning;
 mod gathering;
+pub mod lent;
 mod opening;
 mod settling;
 pub mod taking;
 mod turns;
 
 // How far the lines have come.
-#[derive(Clone, Copy, PartialEq, Eq)]
+#[derive(Clone, Copy, PartialEq, Eq, Default)]
 pub enum FileStage {
     // the first line is due
+    #[default]
     First,
     // P and H lines are due
     Gathering,
@@ -28,11 +30,12 @@ pub enum FileStage {
     Refused,
 }
 
-// How far the file has come.
-#[derive(Clone, Copy)]
+// How far the file has come. No enum with fields: C gets the flat state back, with the fields of the stages that are over too, so each variant would
+// carry all of them.
+#[derive(Clone, Copy, Default)]
 pub struct MonthFile {
     pub stage: FileStage,
-    // bytes of the line that has begun
+    // bytes of the line that has begun. This and `rows`, `figures` say how much of the lent lists is in use: the lists are the caller's between calls
     pub length: usize,
     // lines read
     pub count: u64,
@@ -50,7 +53,7 @@ pub struct MonthFile {
 }
 
 impl MonthFile {
-    // One more line read, at a stage.
+    // One more line read, at a stage. That the count is small is no fact of the type: C may lend a state with any count.
     #[tactic(auto, unfolding(crate::specs::State::at_stage))]
     pub fn at_stage(self, stage: FileStage) -> MonthFile
         requires { self.count < 10000 }

@@ -1,33 +1,30 @@
 // The month is opened after the last H line.
-ghost use Rattle.file_lines.specs.State.{kept, Moved, Openable, opened_of};
+ghost use Rattle.std.specs.Prelude.{◌≡◌};
+ghost use Rattle.file_lines.specs.State.{Moved, Openable, opened_of};
+ghost use Rattle.file_lines.specs.Lists.{lent_lists, SameLists};
 
-use crate::MonthFile;
+use crate::lent::LentFile;
 use ledger::{ACCOUNTS, ALLOTTED};
 use month::Month;
-use plants::Plant;
 
 // Opens the month of the rows and the profile that are kept.
-pub fn open_month(
-    file: MonthFile,
-    plants: &[Plant],
-    profile: &[u64],
-    allotted: &mut [u64],
-    accounts: &mut [i64],
-) -> MonthFile
-    requires { Openable file (kept plants.now profile.now allotted.old accounts.old) }
-    ensures { Moved file (opened_of file (kept plants.now profile.now allotted.old accounts.old)) result (kept plants.now profile.now allotted.new accounts.new) }
+pub fn open_month(file: &mut LentFile<'_, '_, '_, '_>)
+    requires { Openable file.old.state (lent_lists file.old) }
+    ensures moved { Moved file.old.state (opened_of file.old.state (lent_lists file.old)) file.new.state (lent_lists file.new) }
+    ensures same { SameLists file.old file.new }
+    ensures read { (file.new.plants.now ≡ file.old.plants.now) × (file.new.profile.now ≡ file.old.profile.now) }
 {
-    let rows = file.plants as usize;
-    let figures = file.periods as usize;
+    let state = file.state;
+    let rows = state.plants as usize;
+    let figures = state.periods as usize;
     let fours = ALLOTTED * rows;
     let twos = ACCOUNTS * rows;
     let mut month = Month::default();
-    let answer = month.open(
-        &plants[..rows],
-        &profile[..figures],
-        file.tariff,
-        &mut allotted[..fours],
-        &mut accounts[..twos],
-    );
-    file.after(answer, month)
+    // all four are lent `&mut`: to read one list of the file while another is lent is not covered yet
+    let plants = &mut file.plants[..rows];
+    let profile = &mut file.profile[..figures];
+    let allotted = &mut file.allotted[..fours];
+    let accounts = &mut file.accounts[..twos];
+    let answer = month.open(plants, profile, state.tariff, allotted, accounts);
+    file.state = state.after(answer, month);
 }

@@ -2,73 +2,45 @@
 ghost use Rattle.std.specs.Prelude.{◌+◌, ◌≢◌};
 ghost use Rattle.file_lines.specs.declared.FileStage.TheVariants as stage;
 ghost use Rattle.file_lines.specs.File.{whole, taken, read};
-ghost use Rattle.file_lines.specs.State.{kept, progress_of, Valid, Moved, Figured};
+ghost use Rattle.file_lines.specs.State.{progress_of, Moved, Figured};
+ghost use Rattle.file_lines.specs.Lists.{lent_lists, SameLists};
 
+use crate::FileStage;
 use crate::beginning::begun;
 use crate::gathering::gather;
+use crate::lent::LentFile;
 use crate::settling::settle_line;
 use crate::turns::in_turn;
-use crate::{FileStage, MonthFile};
 use lines::fields::FIELDS;
 use lines::reading::read_line;
-use plants::Plant;
 use refusals::Refusal;
 
 // The figures of a line in turn: sizes, a row or a profile figure, or the metered figures of the period due.
-pub fn take_figures(
-    file: MonthFile,
-    figures: &[u64],
-    plants: &mut [Plant],
-    profile: &mut [u64],
-    allotted: &mut [u64],
-    accounts: &mut [i64],
-) -> MonthFile
-    requires figured { Figured file figures.now }
-    requires valid { Valid file (kept plants.old profile.old allotted.old accounts.old) }
-    ensures { Moved file (taken (file.count + 1) (progress_of file (kept plants.old profile.old allotted.old accounts.old)) figures.now) result (kept plants.new profile.new allotted.new accounts.new) }
+pub fn take_figures(file: &mut LentFile<'_, '_, '_, '_>, figures: &[u64])
+    requires { Figured file.old.state figures.now }
+    ensures moved { Moved file.old.state (taken (file.old.state.count + 1) (progress_of file.old.state (lent_lists file.old)) figures.now) file.new.state (lent_lists file.new) }
+    ensures same { SameLists file.old file.new }
 {
-    match file.stage {
-        FileStage::First => begun(file, figures[0], figures[1], figures[2]),
-        FileStage::Gathering => gather(file, figures, plants, profile, allotted, accounts),
-        FileStage::Metering => settle_line(
-            file,
-            &figures[1..],
-            plants,
-            profile,
-            allotted,
-            accounts,
-        ),
-        FileStage::Refused => file,
+    match file.state.stage {
+        FileStage::First => file.state = begun(file.state, figures[0], figures[1], figures[2]),
+        FileStage::Gathering => gather(file, figures),
+        FileStage::Metering => settle_line(file, &figures[1..]),
+        FileStage::Refused => {}
     }
 }
 
 // A line with its byte 10: 26 to 30 first, then 31, then the other questions.
-pub fn take_line(
-    file: MonthFile,
-    line: &[u8],
-    plants: &mut [Plant],
-    profile: &mut [u64],
-    allotted: &mut [u64],
-    accounts: &mut [i64],
-) -> MonthFile
-    requires going { file.stage ≢ stage.Refused }
-    requires valid { Valid file (kept plants.old profile.old allotted.old accounts.old) }
-    ensures { Moved file (read (file.count + 1) (progress_of file (kept plants.old profile.old allotted.old accounts.old)) (whole line.now)) result (kept plants.new profile.new allotted.new accounts.new) }
+pub fn take_line(file: &mut LentFile<'_, '_, '_, '_>, line: &[u8])
+    requires { file.old.state.stage ≢ stage.Refused }
+    ensures moved { Moved file.old.state (read (file.old.state.count + 1) (progress_of file.old.state (lent_lists file.old)) (whole line.now)) file.new.state (lent_lists file.new) }
+    ensures same { SameLists file.old file.new }
 {
     let mut figures = [0u64; FIELDS];
-    let read = match read_line(line, &mut figures) {
-        Ok(read) => read,
-        Err(refusal) => return file.refused(refusal),
-    };
-    if !in_turn(file, read.start, figures[0]) {
-        return file.refused(Refusal::OutOfTurn);
+    match read_line(line, &mut figures) {
+        Ok(read) if in_turn(file.state, read.start, figures[0]) => {
+            take_figures(file, &figures[..read.fields]);
+        }
+        Ok(_) => file.state = file.state.refused(Refusal::OutOfTurn),
+        Err(refusal) => file.state = file.state.refused(refusal),
     }
-    take_figures(
-        file,
-        &figures[..read.fields],
-        plants,
-        profile,
-        allotted,
-        accounts,
-    )
 }

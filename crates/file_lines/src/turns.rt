@@ -9,7 +9,7 @@ use crate::{FileStage, MonthFile};
 use lines::reading::Start;
 use month::Month;
 
-// 31, of G lines: is it the period due, and is one due?
+// 31, of G lines: is it the period due, and is one due? Start and figure stay two: the figure stands in a list beside `ReadLine`.
 fn meter_turn(month: Month, start: Start, period: u64) -> bool
     ensures { result ≡ meter_turn month (start_number start) period }
 {

@@ -7,6 +7,7 @@ ghost use Rattle.hour.specs.Work.{Workable, HourWorked};
 use blocks::Blocks;
 use lists::PLANTS;
 use plants::Plant;
+use sharing::Weights;
 use transfer::Table;
 
 // What an hour answers: secondary energy Z, the sum A of the guarantees, and both transfer tables.
@@ -18,7 +19,8 @@ pub struct Worked {
     pub secondary_table: Table,
 }
 
-// One hour of the plants, in a period counted from 1: fills the allotment list and the nets.
+// One hour of the plants, in a period counted from 1: fills the allotment list and the nets. No heap: arrays for the most plants, of which the rows have
+// the front. (Plants and profile stay two, see `month`.)
 pub fn work(
     plants: &[Plant],
     profile: &[u64],
@@ -42,7 +44,11 @@ pub fn work(
     let r = &mut r[..n];
     let part = &mut part[..n];
     let guarantees = modulation::guarantees_of(profile, period, plants, a);
-    let secondary = rows::share_out(metered, guarantees, a, b, r);
+    let a = Weights {
+        figures: a,
+        total: guarantees,
+    };
+    let secondary = rows::share_out(metered, a, b, r);
     let surplus = rows::prepare(plants, metered, b, r, d, nets, allotment);
     let blocks = Blocks::new(plants);
     let first = cover::meet(blocks, surplus, d, part, allotment);

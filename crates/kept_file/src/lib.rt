@@ -8,12 +8,13 @@ ghost use Rattle.file_lines.specs.State.{at_start};
 ghost use Rattle.kept_file.specs.Files.{file_of, kept_at, kept_file_of, kept_lists, FileFed, FileFinished};
 
 use file_calls::{FinishAnswer, feed_any, finish_any};
+use file_lines::lent::FileView;
 use file_lines::{FileStage, MonthFile};
 use kept_month::KeptMonth;
 use records::{COLUMNS, plants_of, put_plants};
 use refusals::Refusal;
 
-// How far a month file has come, as the caller keeps it.
+// How far a month file has come, as the caller keeps it: C may set a stage or a refusal to any number.
 #[repr(C)]
 #[derive(Clone, Copy)]
 pub struct KeptFile {
@@ -29,7 +30,7 @@ pub struct KeptFile {
     pub number: u64,
 }
 
-// What feed answers: the number, and the state handed back.
+// What feed answers C, to which no `Result` can cross: the number, and the state handed back.
 #[repr(C)]
 #[derive(Clone, Copy)]
 pub struct KeptFed {
@@ -81,7 +82,7 @@ impl From<MonthFile> for KeptFile {
     }
 }
 
-// file_lines::beginning::fresh.
+// file_lines::beginning::fresh, for C.
 pub fn begin_kept() -> KeptFile
     ensures { result ≡ kept_file_of at_start }
 {
@@ -92,10 +93,11 @@ pub fn begin_kept() -> KeptFile
 fn taken(kept: KeptFile, file: MonthFile) -> KeptFile
     ensures { result ≡ cond (ltb 2 kept.stage) (kept_at kept.stage (file_of kept)) (kept_file_of file) }
 {
-    if 2 < kept.stage {
+    let meant = MonthFile::from(kept);
+    if meant.stage == FileStage::Refused {
         return KeptFile {
             stage: kept.stage,
-            ..MonthFile::from(kept).into()
+            ..meant.into()
         };
     }
     file.into()
@@ -111,7 +113,7 @@ fn refused(file: KeptFile, refusal: Refusal) -> KeptFed
     }
 }
 
-// file_calls::feed_any.
+// file_calls::feed_any, with the lists as C lends them.
 pub fn feed_kept(
     file: KeptFile,
     part: &[u8],
@@ -148,7 +150,7 @@ pub fn feed_kept(
     }
 }
 
-// file_calls::finish_any.
+// file_calls::finish_any, with the lists as C lends them.
 pub fn finish_kept(
     file: KeptFile,
     line: &[u8],
@@ -163,15 +165,11 @@ pub fn finish_kept(
     if columns.len() < COLUMNS {
         return FinishAnswer::from(Err(Refusal::ListLength));
     }
-    let plants = plants_of(columns);
-    finish_any(
-        file.into(),
-        line,
-        &plants,
+    let lists = FileView {
+        plants: &plants_of(columns),
         profile,
         allotted,
         accounts,
-        text,
-    )
-    .into()
+    };
+    finish_any(file.into(), line, lists, text).into()
 }

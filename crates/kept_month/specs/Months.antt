@@ -1,8 +1,6 @@
 -- The month as a C program keeps it. An enum cannot cross, so the stage is a number. Assumes nothing.
-use Rattle.std.specs.Prelude.{◌≡◌, ℕ, cond, List, eqb, Result, Ok, Err}
+use Rattle.std.specs.Prelude.{◌≡◌, ℕ, cond, List, eqb}
 use Rattle.lists.specs.Questions.{outcome}
-use Rattle.refusals.specs.declared.Refusal.{Refusal}
-use Rattle.refusals.specs.Numbers.{refusal_number}
 use Rattle.plants.specs.declared.Plant.{Plant}
 use Rattle.ledger.specs.Ledger.{Ledger}
 use Rattle.month.specs.declared.Month.{Month}
@@ -34,11 +32,6 @@ month_of k = record { stage = stage_of k.stage; plants = k.plants; periods = k.p
 
 unfoldable pub kept_of : Month → KeptMonth
 kept_of m = record { stage = stage_number m.stage; plants = m.plants; periods = m.periods; tariff = m.tariff; due = m.due }
-
--- the number of a call's answer, and its figures; beside a refusal these zeros
-unfoldable pub told : {A : Type 0} → Result A Refusal → A → ℕ × A
-told (Ok a) zeros = (0, a)
-told (Err r) zeros = (refusal_number r, zeros)
 
 -- accepted, the month that the call hands back; refused, the caller's own, figure for figure
 unfoldable pub handed_back : ℕ → KeptMonth → Month → KeptMonth

@@ -1,13 +1,16 @@
 // The month as a C program keeps it, and its calls. A month with an enum cannot cross: C keeps one whose stage is a number.
-#![tactic(auto, unfolding(crate::specs::Months::month_of, crate::specs::Months::stage_of, crate::specs::Months::kept_of, crate::specs::Months::stage_number, crate::specs::Months::handed_back, crate::specs::Months::told, crate::specs::Months::ended_kept, crate::specs::Months::settled_kept, crate::specs::Months::close_kept, crate::specs::Months::balance_kept, crate::specs::Months::stated_kept, crate::specs::Months::sized_kept, lists::specs::Questions::outcome))]
+#![tactic(auto)]
 
 ghost use Rattle.std.specs.Prelude.{◌≡◌};
+ghost use Rattle.refusals.specs.Numbers.{number};
+ghost use Rattle.ledger.specs.Ledger.{viewed};
 ghost use Rattle.month.specs.Answers.{ended, settled, stated, sized};
-ghost use Rattle.kept_month.specs.Months.{month_of, kept_of, handed_back, told, ended_kept, settled_kept, close_kept, balance_kept, stated_kept, sized_kept};
+ghost use Rattle.kept_month.specs.Months.{month_of, kept_of, handed_back, ended_kept, settled_kept, close_kept, balance_kept, stated_kept, sized_kept};
 
 use hour::Worked;
+use ledger::LedgerView;
 use month::{Balance, Month, Stage};
-use refusals::{Refusal, number_of};
+use refusals::{Refusal, number_of, told};
 use transfer::Table;
 
 // A month as the caller keeps it. Stage: 0 blank, 1 open, 2 closed; any other number is read as blank.
@@ -72,7 +75,7 @@ pub struct KeptSized {
     pub size: u64,
 }
 
-// The figures beside a refusal.
+// The figures beside a refusal of settle. (A constant: with a derived Default of the tables' arrays of arrays the check did not prove `settled_kept`.)
 const NO_TABLE: Table = Table { rows: [[0; 4]; 4] };
 
 const NOTHING: Worked = Worked {
@@ -82,16 +85,11 @@ const NOTHING: Worked = Worked {
     secondary_table: NO_TABLE,
 };
 
-const NO_SUMS: Balance = Balance {
-    columns: [0; 4],
-    net: 0,
-    money: 0,
-};
-
 // The month that is meant.
 impl From<KeptMonth> for Month {
     ghost from_gives = { λ kept month. month ≡ month_of kept };
 
+    #[tactic(auto, unfolding(crate::specs::Months::month_of, crate::specs::Months::stage_of))]
     fn from(kept: KeptMonth) -> Month {
         Month {
             stage: match kept.stage {
@@ -110,6 +108,7 @@ impl From<KeptMonth> for Month {
 impl From<Month> for KeptMonth {
     ghost from_gives = { λ month kept. kept ≡ kept_of month };
 
+    #[tactic(auto, unfolding(crate::specs::Months::kept_of, crate::specs::Months::stage_number))]
     fn from(month: Month) -> KeptMonth {
         KeptMonth {
             stage: month.stage as u64,
@@ -121,42 +120,39 @@ impl From<Month> for KeptMonth {
     }
 }
 
-// Accepted, the month after the call; refused, the caller's own. By the number, which the C interface needs beside it.
-fn handed_back(number: u64, month: KeptMonth, after: Month) -> KeptMonth
-    ensures { result ≡ handed_back number month after }
-{
-    if number == 0 { after.into() } else { month }
-}
-
-// The number of a call's answer, and its figures: zeros beside a refusal.
-fn told<A: Copy>(answer: Result<A, Refusal>, zeros: A) -> (u64, A)
-    ensures { result ≡ told answer zeros }
+// Accepted, the month after the call; refused, the caller's own.
+#[tactic(auto, unfolding(crate::specs::Months::handed_back, lists::specs::Questions::outcome))]
+fn handed_back<A: Copy>(answer: Result<A, Refusal>, month: KeptMonth, after: Month) -> KeptMonth
+    ensures { result ≡ handed_back (number answer) month after }
 {
     match answer {
-        Ok(figures) => (0, figures),
-        Err(refusal) => (refusal.number(), zeros),
+        Ok(_) => after.into(),
+        Err(_) => month,
     }
 }
 
-// Open's and close's answer as C gets it.
+// Open's and close's answer as C gets it. No `From`, here and below: it is made of the month before the call, the answer and, where it changes, the month
+// after.
+#[tactic(auto, unfolding(crate::specs::Months::ended_kept))]
 pub fn ended_kept(month: KeptMonth, after: Month, answer: Result<(), Refusal>) -> KeptEnd
     ensures { result ≡ ended_kept month (ended answer after) }
 {
     let number = number_of(answer);
     KeptEnd {
         number,
-        month: handed_back(number, month, after),
+        month: handed_back(answer, month, after),
     }
 }
 
 // Settle's answer as C gets it.
+#[tactic(auto, unfolding(crate::specs::Months::settled_kept, refusals::specs::Numbers::told))]
 pub fn settled_kept(month: KeptMonth, after: Month, answer: Result<Worked, Refusal>) -> KeptSettle
     ensures { result ≡ settled_kept month (settled answer after) }
 {
     let (number, worked) = told(answer, NOTHING);
     KeptSettle {
         number,
-        month: handed_back(number, month, after),
+        month: handed_back(answer, month, after),
         secondary: worked.secondary,
         guarantees: worked.guarantees,
         cover_table: worked.cover_table,
@@ -165,6 +161,7 @@ pub fn settled_kept(month: KeptMonth, after: Month, answer: Result<Worked, Refus
 }
 
 // Month::close.
+#[tactic(auto, unfolding(crate::specs::Months::close_kept))]
 pub fn close_kept(month: KeptMonth) -> KeptEnd
     ensures { result ≡ close_kept month }
 {
@@ -174,10 +171,11 @@ pub fn close_kept(month: KeptMonth) -> KeptEnd
 }
 
 // Month::balance.
-pub fn balance_kept(month: KeptMonth, allotted: &[u64], accounts: &[i64]) -> KeptBalance
-    ensures { result ≡ balance_kept month (record { allotted = allotted.now; accounts = accounts.now }) }
+#[tactic(auto, unfolding(crate::specs::Months::balance_kept, refusals::specs::Numbers::told))]
+pub fn balance_kept(month: KeptMonth, ledger: LedgerView<'_>) -> KeptBalance
+    ensures { result ≡ balance_kept month (viewed ledger.entry) }
 {
-    let (number, balance) = told(Month::from(month).balance(allotted, accounts), NO_SUMS);
+    let (number, balance) = told(Month::from(month).balance(ledger), Balance::default());
     let columns = balance.columns;
     KeptBalance {
         number,
@@ -189,6 +187,7 @@ pub fn balance_kept(month: KeptMonth, allotted: &[u64], accounts: &[i64]) -> Kep
 }
 
 // The statement's answer as C gets it.
+#[tactic(auto, unfolding(crate::specs::Months::stated_kept, refusals::specs::Numbers::told))]
 pub fn stated_kept(month: KeptMonth, answer: Result<usize, Refusal>) -> KeptStated
     ensures { result ≡ stated_kept month (stated answer (month_of month)) }
 {
@@ -201,6 +200,7 @@ pub fn stated_kept(month: KeptMonth, answer: Result<usize, Refusal>) -> KeptStat
 }
 
 // The sizing call's answer as C gets it.
+#[tactic(auto, unfolding(crate::specs::Months::sized_kept, refusals::specs::Numbers::told))]
 pub fn sized_kept(month: KeptMonth, answer: Result<u64, Refusal>) -> KeptSized
     ensures { result ≡ sized_kept month (sized answer (month_of month)) }
 {

@@ -3,11 +3,16 @@ use Rattle.std.specs.Prelude.{ℕ, ◌+◌, ◌-◌, ◌*◌, ◌^◌, Bool, ◌
 use Rattle.lists.specs.Lists.{every, at_most}
 use Rattle.lists.specs.Columns.{◌⊕◌, ◌⊕ℤ◌, column}
 use Rattle.signed.specs.Figures.{is_within}
+use Rattle.ledger.specs.declared.LedgerView.{LedgerView}
 
 -- Two lists, row by row: four allotted figures a plant; net kWh and money a plant
 pub record Ledger : Type 0 where
   pub allotted : List ℕ
   pub accounts : List ℤ
+
+-- the ledger whose lists are lent to be read
+abbrev pub viewed : LedgerView → Ledger
+viewed l = record { allotted = l.allotted.now; accounts = l.accounts.now }
 
 -- figures a plant in each list
 abbrev pub allotted_width : ℕ

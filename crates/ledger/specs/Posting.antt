@@ -2,11 +2,16 @@
 use Rattle.std.specs.Prelude.{◌≡◌, List, ℕ, ◌*◌, ◌^◌, ◌≤◌, ℤ, pos, nat_abs, length, get_or}
 use Rattle.lists.specs.Lists.{most, Within}
 use Rattle.signed.specs.Figures.{accounts_of}
+use Rattle.ledger.specs.declared.HourView.{HourView}
 use Rattle.ledger.specs.Ledger.{Ledger, accounts_width, kwh_bound, money_bound}
 
 -- an hour's figures: each row's allotted kWh, its net, and net × TEO as money
 abbrev pub hour_figures : List ℕ → List ℤ → ℕ → Ledger
 hour_figures allotment nets tariff = record { allotted = allotment; accounts = accounts_of tariff nets }
+
+-- ... of an hour whose lists are lent to be read
+abbrev pub viewed_hour : HourView → Ledger
+viewed_hour h = hour_figures h.allotment.now h.nets.now h.tariff
 
 -- each figure within the bound of zero, as a fact
 pub record Near (l : List ℤ) (bound : ℕ) : Type 0 where

@@ -1,19 +1,20 @@
 -- Laws of commas and fields. Assumes nothing.
 use mathlib.Core.Path.{◌≡◌, refl, sym, ap, subst, ◌∙◌}
-use mathlib.Core.Logic.{by_cases}
-use mathlib.Core.Bool.{Bool, true, false}
+use mathlib.Core.Bool.{Bool, true, false, cond}
 use mathlib.Core.List.{List, [], ◌∷◌}
 use Prim.Native.Nat.{ℕ, zero, suc, ◌+◌, ◌-◌, ◌≤◌, ◌<◌, zero-le}
-use native.Mathlib.Decide.{dec_lt}
 use native.Mathlib.Omega.{arith}
-use borrow.Author.Tests.{eq-eqb, ne_eqb, eqb-true, eqb-false, lt-ltb, le-ltb, lt-leb, le-leb}
-use lib.Dec.{eqb, leb, ltb}
-use Rattle.std.specs.Prelude.{count_by}
+use borrow.Author.Tests.{eq-eqb, ne_eqb, eqb-true, eqb-false, lt-ltb, le-ltb}
+use lib.Dec.{eqb, ltb}
+use Rattle.std.specs.Prelude.{Option, Some, None, MatchOption, IfOk, count_by}
+use Rattle.std.specs.Option.{ok_or}
 use Rattle.std.specs.List.{onto_first, slice_split}
 use Rattle.std.proofs.lemmas.List.Splits.{length-slice_split}
 use lib.ListN.{length, take, drop, get_or, length-drop, drop_of_length-le}
 use lib.Seq.{get_or-drop, drop-drop, drop-nil, take_all, length-take-le}
 use Rattle.lists.proofs.Loops.{at_drop}
+use Rattle.refusals.specs.declared.Refusal.TheVariants.{FieldCount}
+use Rattle.refusals.specs.Numbers.{number}
 use Rattle.lines.specs.Fields.{to_comma, next_comma, fields, to_first}
 use Rattle.lines.specs.Inner.{first_field, Starts}
 
@@ -97,18 +98,16 @@ module _ {l : List ℕ} {index : ℕ} where
       let one_more : left ≡ suc (left - 1) = omega arith in
       record { inside = omega arith; rest = rw p (rw (one_more, fields-more l at s.inside (rw p at k)) at s.rest) }
 
-  pub skipped_all : {at left e : ℕ} → Skipping l index at left → 0 < left → e ≡ next_comma l at → length l ≤ e → Starts l index (e + 1)
+  pub skipped_all : {at left e : ℕ} → Skipping l index at left → 0 < left → e ≡ next_comma l at → length l ≤ e → length (fields l) ≤ index
   skipped_all {at} {left} {e} s h p k =
       let one_more : left ≡ suc (left - 1) = omega arith in
-      record {
-        there = λ q. absurd (omega arith);
-        absent = λ q. sym s.rest ∙ rw (one_more, fields-last l at s.inside (rw p at k), drop-nil (left - 1));
-      }
+      let none : drop index (fields l) ≡ [] = sym s.rest ∙ rw (one_more, fields-last l at s.inside (rw p at k), drop-nil (left - 1)) in
+      omega (arith, length-drop index (fields l), ap length none)
 
   pub skipped : {at left : ℕ} → Skipping l index at left → left ≤ 0 → Starts l index at
   skipped {at} {left} s h =
       let none : left ≡ 0 = omega arith in
-      record { there = λ q. sym s.rest ∙ rw none; absent = λ q. absurd (omega (arith, s.inside)) }
+      record { inside = s.inside; there = sym s.rest ∙ rw none }
 
 -- a line has a first field
 pub fields-first : (l : List ℕ) → fields l ≡ first_field l ∷ drop 1 (fields l)
@@ -148,24 +147,24 @@ commas_counted l = sym (length-slice_split (λ b. eqb b 44) l) ∙ ap length (sp
 -- ---- a field by its index
 
 module _ {l : List ℕ} {index r : ℕ} (s : Starts l index r) where
-  pub field_absent : length l < r → length (fields l) ≤ index
-  field_absent h = omega (arith, length-drop index (fields l), ap length (s.absent h))
+  whole : drop index (fields l) ≡ first_field (drop r l) ∷ drop 1 (fields (drop r l))
+  whole = s.there ∙ fields-first (drop r l)
 
-  module _ (h : r ≤ length l) where
-    whole : drop index (fields l) ≡ first_field (drop r l) ∷ drop 1 (fields (drop r l))
-    whole = s.there h ∙ fields-first (drop r l)
+  pub field_present : index < length (fields l)
+  field_present = omega (arith, length-drop index (fields l), ap length whole)
 
-    pub field_present : index < length (fields l)
-    field_present = omega (arith, length-drop index (fields l), ap length whole)
+  pub field_there : get_or (fields l) index [] ≡ first_field (drop r l)
+  field_there = sym (at_drop (fields l) index []) ∙ ap (λ (fs : List (List ℕ)). get_or fs 0 []) whole
 
-    pub field_there : get_or (fields l) index [] ≡ first_field (drop r l)
-    field_there = sym (at_drop (fields l) index []) ∙ ap (λ (fs : List (List ℕ)). get_or fs 0 []) whole
+-- question 28 by what stands for the field's start
+pub field_asked : (l : List ℕ) (index : ℕ) (o : Option ℕ) → MatchOption o (length (fields l) ≤ index) (Starts l index)
+    → number (ok_or o FieldCount) ≡ cond (ltb index (length (fields l))) 0 28
+field_asked l index None h = rw (le-ltb index (length (fields l)) h)
+field_asked l index (Some r) s = rw (lt-ltb index (length (fields l)) (field_present s))
 
--- a position in the line is that of a field there
-pub field_asked : (l : List ℕ) (index r : ℕ) → Starts l index r → leb r (length l) ≡ ltb index (length (fields l))
-field_asked l index r s =
-    by_cases (dec_lt (length l) r)
-    (λ h. lt-leb r (length l) h ∙ sym (le-ltb index (length (fields l)) (field_absent s h))) (λ h. le-leb r (length l) (omega arith) ∙ sym (lt-ltb index (length (fields l)) (field_present s (omega arith))))
+pub field_found : (l : List ℕ) (index : ℕ) (o : Option ℕ) → MatchOption o (length (fields l) ≤ index) (Starts l index) → IfOk (ok_or o FieldCount) (Starts l index)
+field_found l index None h = tt
+field_found l index (Some r) s = s
 
 -- ---- the next comma is the first
 

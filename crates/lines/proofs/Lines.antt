@@ -16,7 +16,7 @@ use Rattle.std.proofs.lemmas.Iterator.{YieldsList}
 use Rattle.std.proofs.lemmas.Iterator.Consumers.{YieldsList-turn, YieldsList-end}
 use Rattle.lists.specs.Lists.{every}
 use Rattle.lists.specs.Questions.{◌then◌, ◌⁇◌, first_no}
-use Rattle.lists.proofs.Loops.{Passing, passing, passing_more, halted, passed, drop_more}
+use Rattle.lists.proofs.Loops.{Passing, passing_more, halted, passed, drop_more}
 use Rattle.lists.proofs.Questions.{no, then_yes, refuses, accepts}
 use Rattle.figures.specs.Figures.{value, is_figure, ReadAs}
 use Rattle.lines.specs.Fields.{longest, fields}
@@ -36,9 +36,6 @@ pub record Gathering (fs : List (List ℕ)) (i : ℕ) (figures : List ℕ) : Typ
   pub written : take i figures ≡ map value (take i fs)
 
 module _ {fs : List (List ℕ)} {figures : List ℕ} where
-  pub gathering : length figures ≡ length fs → Gathering fs 0 figures
-  gathering e = record { same = e; tested = passing; written = refl }
-
   module _ {i : ℕ} (g : Gathering fs i figures) where
     module _ (h : i < length fs) {f : List ℕ} (e : f ≡ get_or fs i []) {o : Option ℕ} (r : ReadAs (is_figure f) f o) where
       pub gathering_more : {v : ℕ} → o ≡ Some v → Gathering fs (i + 1) (set figures i v)

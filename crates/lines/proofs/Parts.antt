@@ -1,9 +1,7 @@
 -- Where a field's bytes lie in the line. Assumes nothing.
 use mathlib.Core.Path.{◌≡◌, refl, sym, ap, ◌∙◌}
-use mathlib.Core.Logic.{by_cases}
 use mathlib.Core.List.{List, [], ◌∷◌, map, map-append}
 use Prim.Native.Nat.{ℕ, suc, ◌+◌, ◌≤◌, ◌<◌}
-use native.Mathlib.Decide.{dec_lt}
 use native.Mathlib.Omega.{arith}
 use borrow.Author.Tests.{ltb-true}
 use lib.ListN.{length, take, drop, length-drop, take-append-drop}
@@ -13,7 +11,7 @@ use Rattle.lists.proofs.Questions.{asked, refuses, accepts}
 use Rattle.lists.proofs.Sums.{sum-append}
 use Rattle.lines.specs.Fields.{to_first, fields, field_number, field_bytes, start_of, field_start, Part}
 use Rattle.lines.specs.Inner.{first_field, Starts}
-use Rattle.lines.proofs.Commas.{by_commas_lem, fields-some, field_absent, field_there}
+use Rattle.lines.proofs.Commas.{by_commas_lem, fields-some, field_present, field_there}
 
 -- ---- how many bytes the fields have
 
@@ -61,16 +59,13 @@ module _ (l : List ℕ) (index : ℕ) {n : ℕ} (e : n ≡ field_number l index)
     present = ltb-true _ _ (asked _ _ [] tt (asked _ _ _ tt (sym e ∙ z)).1).0
 
     module _ {r : ℕ} (s : Starts l index r) where
-      pub in_line : r ≤ length l
-      in_line = by_cases (dec_lt (length l) r) (λ p. absurd (omega (arith, field_absent s p, present))) (λ h. omega arith)
-
       pub start-there : r ≡ field_start l index
       unfolding field_start
-      start-there = accepts n (field_number l index) _ _ _ e z (starts-there l index r in_line present (s.there in_line))
+      start-there = accepts n (field_number l index) _ _ _ e z (starts-there l index r s.inside (field_present s) s.there)
 
       pub bytes-there : first_field (drop r l) ≡ field_bytes l index
       unfolding field_bytes
-      bytes-there = accepts n (field_number l index) _ _ _ e z (sym (field_there s in_line))
+      bytes-there = accepts n (field_number l index) _ _ _ e z (sym (field_there s))
 
 module _ {line part : Bor (List ℕ)} where
   same-part : {a b : ℕ} {xs ys : List ℕ} → a ≡ b → xs ≡ ys → Part line part a xs → Part line part b ys

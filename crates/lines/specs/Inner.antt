@@ -1,5 +1,5 @@
--- What the contracts of the functions below the calls say. Free: the position where there is no such field. Assumes nothing.
-use Rattle.std.specs.Prelude.{◌≡◌, List, [], ◌∷◌, map, ℕ, ◌≤◌, ◌<◌, leb, ltb, length, take, drop}
+-- What the contracts of the functions below the calls say. Assumes nothing.
+use Rattle.std.specs.Prelude.{◌≡◌, List, [], ◌∷◌, map, ℕ, ◌≤◌, leb, ltb, length, take, drop}
 use Rattle.lists.specs.Lists.{every}
 use Rattle.lists.specs.Questions.{Question, ◌⁇◌}
 use Rattle.figures.specs.Figures.{value, is_figure}
@@ -11,10 +11,10 @@ use Rattle.lines.specs.declared.reading.ReadLine.{ReadLine}
 unfoldable pub first_field : List ℕ → List ℕ
 first_field l = take (to_comma l) l
 
--- the fields from an index on are those from a position on; where the position is past the line's end, there are none
+-- a field starts at a position of the line: the fields from its index on are those from there on
 pub record Starts (line : List ℕ) (index position : ℕ) : Type 0 where
-  pub there : position ≤ length line → drop index (fields line) ≡ fields (drop position line)
-  pub absent : length line < position → drop index (fields line) ≡ []
+  pub inside : position ≤ length line
+  pub there : drop index (fields line) ≡ fields (drop position line)
 
 -- the questions before that of room
 abbrev pub read_questions : List ℕ → List Question

@@ -1,7 +1,8 @@
-// Fields of a line, parted by commas: where the next comma stands, and a field handed back as a part of the line.
-ghost use Rattle.std.specs.Prelude.{◌≡◌, ◌≤◌, IfOk, length, drop};
+// Fields of a line, parted by commas: where the next comma stands, and a field handed back as a part of the line. Line and index stay two parameters:
+// they are what the field call is given, here and by C.
+ghost use Rattle.std.specs.Prelude.{◌≡◌, ◌≤◌, MatchOption, IfOk, length, drop};
 ghost use Rattle.refusals.specs.Numbers.{number};
-ghost use Rattle.lines.specs.Fields.{to_comma, next_comma, field_number, field_bytes, field_start, Part};
+ghost use Rattle.lines.specs.Fields.{to_comma, next_comma, fields, field_number, field_bytes, field_start, Part};
 ghost use Rattle.lines.specs.Inner.{first_field, Starts};
 
 use lists::PLANTS;
@@ -40,28 +41,29 @@ pub fn field_at(line: &[u8], from: usize) -> &[u8]
     &line[from..end]
 }
 
-// Where a field starts, counted from 0 at the line's first byte; past the line's end where there is none.
-pub fn field_start(line: &[u8], index: u64) -> usize
-    ensures { Starts line.now index result }
+// Where a field starts, counted from 0 at the line's first byte.
+pub fn field_start(line: &[u8], index: u64) -> Option<usize>
+    ensures { MatchOption result (length (fields line.now) ≤ index) (Starts line.now index) }
 {
     let mut at: usize = 0;
     for _passed in 0..index {
         let end = next_comma(line, at);
         if line.len() <= end {
-            return end + 1;
+            return None;
         }
         at = end + 1;
     }
-    at
+    Some(at)
 }
 
-// What the field call asks: 26, then 28.
-#[tactic(auto, using(crate::proofs::Commas::field_asked), unfolding(crate::specs::Fields::field_number, lists::specs::Questions::first_no))]
-pub fn ask_field(line: &[u8], index: u64) -> Result<(), Refusal>
-    ensures { number result ≡ field_number line.now index }
+// What the field call asks: 26, then 28. The answer is where the field starts.
+#[tactic(auto, using(crate::proofs::Commas::field_asked, crate::proofs::Commas::field_found), unfolding(crate::specs::Fields::field_number, lists::specs::Questions::first_no))]
+pub fn ask_field(line: &[u8], index: u64) -> Result<usize, Refusal>
+    ensures number { number result ≡ field_number line.now index }
+    ensures start { IfOk result (Starts line.now index) }
 {
     ask(line.len() <= LONGEST, Refusal::LineLength)?;
-    ask(field_start(line, index) <= line.len(), Refusal::FieldCount)
+    field_start(line, index).ok_or(Refusal::FieldCount)
 }
 
 // The field call: the field's bytes, a part of the line.
@@ -69,6 +71,6 @@ pub fn field<'a>(line: &'a [u8], index: u64) -> Result<&'a [u8], Refusal>
     ensures number { number result ≡ field_number line.now index }
     ensures part { IfOk result (λ part. Part line.entry part (field_start line.now index) (field_bytes line.now index)) }
 {
-    ask_field(line, index)?;
-    Ok(field_at(line, field_start(line, index)))
+    let start = ask_field(line, index)?;
+    Ok(field_at(line, start))
 }

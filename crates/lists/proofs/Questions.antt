@@ -5,7 +5,7 @@ use mathlib.Core.Bool.{Bool, true, false, false≢true, not, cond, ◌&&◌, ◌
 use mathlib.Core.List.{List, [], ◌∷◌}
 use mathlib.Core.Path.{◌≡◌, refl, sym, ap, ◌∙◌, subst}
 use native.Mathlib.Omega.{arith}
-use borrow.Author.Tests.{leb-true, not-true, not-false, le-leb, lt-leb, lt-ltb, le-ltb, eq-eqb, ne_eqb}
+use borrow.Author.Tests.{leb-true, le-leb, lt-leb, lt-ltb, le-ltb, eq-eqb, ne_eqb}
 use lib.Dec.{T, ltb, leb}
 use lib.ListN.{length, get_or}
 use Rattle.std.specs.List.{list_all}
@@ -59,13 +59,7 @@ pub by_case : {A : Type 0} (P : A → Type 0) (b : Bool) (x y : A) → (b ≡ tr
 by_case P true x y f g = f refl
 by_case P false x y f g = g refl
 
--- what a call answers by its contract, after a test `if !call(..)`, and after `if call(..)`
-pub refused : (x y : Bool) → x ≡ y → not x ≡ true → y ≡ false
-refused x y e t = sym e ∙ not-true x t
-
-pub granted : (x y : Bool) → x ≡ y → not x ≡ false → y ≡ true
-granted x y e t = sym e ∙ not-false x t
-
+-- what a call answers by its contract, after a test `if call(..)`
 pub called_no : (x y : Bool) → x ≡ y → x ≡ false → y ≡ false
 called_no x y e t = sym e ∙ t
 

@@ -63,13 +63,14 @@ impl Modulation {
         requires within { InLimits plants.now }
         ensures { out.new ≡ map (guarantee_of self) plants.now }
     {
+        // by index: of what a loop over a zip of `iter_mut` wrote, nothing is known after it
         for (i, plant) in plants.iter().enumerate() {
             out[i] = self.guaranteed(*plant);
         }
     }
 }
 
-// Steps 1 and 2 of a period: fills the guarantees a, and answers their sum A.
+// Steps 1 and 2 of a period, which `Modulation` is made of with the profile: fills the guarantees a, and answers their sum A.
 pub fn guarantees_of(profile: &[u64], period: u64, plants: &[Plant], a: &mut [u64]) -> u64
     requires le_period { (1 ≤ period) × (period ≤ length profile.now) × (0 < sum profile.now) × (sum profile.now < 2 ^ 43) }
     requires a_len { (length a.old ≡ length plants.now) × (length plants.now ≤ 512) }

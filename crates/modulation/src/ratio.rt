@@ -22,14 +22,14 @@ impl Ratio {
         requires { (part ≤ whole) × (0 < whole) × (whole < 2 ^ 43) }
         ensures { (result.part ≡ part) × (result.whole ≡ whole) }
     {
-        let shifted = part * 1048576;
+        let shifted = part * (1 << 20);
         let rest = shifted % whole;
         Ratio {
             part,
             whole,
             high: shifted / whole,
-            low: wide::mul_div(4398046511104, rest, whole),
-            middle: wide::mul_div(4398046511104, part, whole),
+            low: wide::mul_div(1 << 42, rest, whole),
+            middle: wide::mul_div(1 << 42, part, whole),
         }
     }
 
@@ -38,11 +38,11 @@ impl Ratio {
         requires { t < 2 ^ 40 }
         ensures { result ≡ t * self.part / self.whole }
     {
-        let upper = t / 1048576;
-        let lower = t % 1048576;
+        let upper = t / (1 << 20);
+        let lower = t % (1 << 20);
         let behind = upper * self.low + lower * self.middle;
-        if behind % 4398046511104 + upper + lower < 4398046511104 {
-            return upper * self.high + behind / 4398046511104;
+        if behind % (1 << 42) + upper + lower < 1 << 42 {
+            return upper * self.high + behind / (1 << 42);
         }
         wide::mul_div(t, self.part, self.whole)
     }

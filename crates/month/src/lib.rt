@@ -1,4 +1,5 @@
-// The month and its calls (document 01, 'Calls' and 'The questions'). The ledger's two lists are passed apart: C lends them so.
+// The month and its calls (document 01, 'Calls' and 'The questions'). Open and settle, which write the ledger, get its two lists apart: see `ledger::LedgerView`. Plants,
+// profile and tariff are arguments of their own, as document 01 names them: a struct of them would be made for each call, and read apart in it.
 #![tactic(auto)]
 
 pub mod balancing;
@@ -27,7 +28,7 @@ pub struct Month {
 }
 
 // What balance answers: the four column sums, the sum of nets and the sum of money.
-#[derive(Clone, Copy)]
+#[derive(Clone, Copy, Default)]
 pub struct Balance {
     pub columns: [u64; 4],
     pub net: i64,

@@ -4,8 +4,10 @@ ghost use Rattle.refusals.specs.Numbers.{number};
 ghost use Rattle.month.specs.Questions.{open_number};
 ghost use Rattle.month.specs.Answers.{ended};
 ghost use Rattle.month.specs.Calls.{OpenEnd, open_call};
+ghost use Rattle.ledger.specs.Ledger.{viewed};
 
 use crate::{Month, Stage};
+use ledger::LedgerView;
 use plants::Plant;
 use questions::{ask_sizes, ask_tables};
 use refusals::{Refusal, ask};
@@ -18,14 +20,13 @@ impl Month {
         plants: &[Plant],
         profile: &[u64],
         tariff: u64,
-        allotted: &[u64],
-        accounts: &[i64],
+        ledger: LedgerView<'_>,
     ) -> Result<(), Refusal>
-        ensures { number result ≡ open_number self.now plants.now profile.now tariff (record { allotted = allotted.now; accounts = accounts.now }) }
+        ensures { number result ≡ open_number self.now plants.now profile.now tariff (viewed ledger.entry) }
     {
         ask(self.stage != Stage::Open, Refusal::AlreadyOpen)?;
         ask_sizes(plants.len() as u64, profile.len() as u64, tariff)?;
-        ask_tables(plants.len() as u64, plants, profile, allotted, accounts)
+        ask_tables(plants.len() as u64, plants, profile, ledger)
     }
 
     // Open sets the ledger to zeros and period 1 due.
@@ -40,7 +41,7 @@ impl Month {
     ) -> Result<(), Refusal>
         ensures { ◌≡◌ {A = OpenEnd} (record { answer = ended result self.new; ledger = record { allotted = allotted.new; accounts = accounts.new } }) (open_call self.old plants.now profile.now tariff (record { allotted = allotted.old; accounts = accounts.old })) }
     {
-        self.ask_open(plants, profile, tariff, allotted, accounts)?;
+        self.ask_open(plants, profile, tariff, LedgerView { allotted, accounts })?;
         allotted.fill(0);
         accounts.fill(0);
         *self = Month {

@@ -2,15 +2,15 @@
 ghost use Rattle.std.specs.Prelude.{◌≡◌, true, ◌≤◌, length};
 ghost use Rattle.lists.specs.Lists.{sum, most, at_most};
 ghost use Rattle.refusals.specs.Numbers.{number};
-ghost use Rattle.ledger.specs.Ledger.{in_bounds, added};
-ghost use Rattle.ledger.specs.Posting.{Postable, hour_figures};
+ghost use Rattle.ledger.specs.Ledger.{in_bounds, added, viewed};
+ghost use Rattle.ledger.specs.Posting.{Postable, viewed_hour};
 ghost use Rattle.month.specs.Questions.{own_number, metered_number, inputs_number, bounds_number};
 ghost use Rattle.month.specs.Answers.{settled};
 ghost use Rattle.month.specs.Calls.{SettleEnd, settle_call};
 
 use crate::{Month, Stage};
 use hour::Worked;
-use ledger::ALLOTTED;
+use ledger::{ALLOTTED, HourView, LedgerView};
 use lists::{MOST, PLANTS, in_range};
 use plants::Plant;
 use questions::{ask_sizes, ask_tables};
@@ -27,19 +27,12 @@ fn sum_in_limits(figures: &[u64]) -> u64
 
 // 19 of the ledger as it is and as it would be with the hour's figures and nets added. Nothing is written.
 #[tactic(auto, unfolding(crate::specs::Questions::bounds_number, lists::specs::Questions::first_no))]
-pub fn ask_bounds(
-    allotted: &[u64],
-    accounts: &[i64],
-    figures: &[u64],
-    nets: &[i64],
-    tariff: u64,
-) -> Result<(), Refusal>
-    requires { in_bounds (record { allotted = allotted.now; accounts = accounts.now }) ≡ true → Postable (record { allotted = allotted.now; accounts = accounts.now }) figures.now nets.now tariff }
-    ensures { number result ≡ bounds_number (record { allotted = allotted.now; accounts = accounts.now }) (added (record { allotted = allotted.now; accounts = accounts.now }) (hour_figures figures.now nets.now tariff)) }
+pub fn ask_bounds(ledger: LedgerView<'_>, hour: HourView<'_>) -> Result<(), Refusal>
+    requires { in_bounds (viewed ledger) ≡ true → Postable (viewed ledger) hour.allotment.now hour.nets.now hour.tariff }
+    ensures { number result ≡ bounds_number (viewed ledger.entry) (added (viewed ledger.entry) (viewed_hour hour.entry)) }
 {
     ask(
-        ledger::in_bounds(allotted, accounts)
-            && ledger::in_bounds_after(allotted, accounts, figures, nets, tariff),
+        ledger.in_bounds() && ledger.in_bounds_after(hour),
         Refusal::LedgerBound,
     )
 }
@@ -80,13 +73,12 @@ impl Month {
         profile: &[u64],
         metered: &[u64],
         lent: u64,
-        allotted: &[u64],
-        accounts: &[i64],
+        ledger: LedgerView<'_>,
     ) -> Result<(), Refusal>
-        ensures { number result ≡ inputs_number self.now plants.now profile.now metered.now lent (record { allotted = allotted.now; accounts = accounts.now }) }
+        ensures { number result ≡ inputs_number self.now plants.now profile.now metered.now lent (viewed ledger.entry) }
     {
         self.ask_own(plants.len() as u64, profile.len() as u64)?;
-        ask_tables(self.plants, plants, profile, allotted, accounts)?;
+        ask_tables(self.plants, plants, profile, ledger)?;
         self.ask_metered(profile, metered, lent)
     }
 
@@ -104,17 +96,23 @@ impl Month {
         ensures { ◌≡◌ {A = SettleEnd} (record { answer = settled result self.new; allotment = allotment.new; ledger = record { allotted = allotted.new; accounts = accounts.new } }) (settle_call self.old plants.now profile.now metered.now allotment.old (record { allotted = allotted.old; accounts = accounts.old })) }
     {
         let room = allotment.len();
-        self.ask_inputs(plants, profile, metered, room as u64, allotted, accounts)?;
+        let ledger = LedgerView { allotted, accounts };
+        self.ask_inputs(plants, profile, metered, room as u64, ledger)?;
         // no heap: arrays for the most plants, of which the hour has the front
         let mut figures = [0u64; ALLOTTED * PLANTS];
         let figures = &mut figures[..room];
         let mut nets = [0i64; PLANTS];
         let nets = &mut nets[..plants.len()];
-        let hour = hour::work(plants, profile, self.due, metered, figures, nets);
-        ask_bounds(allotted, accounts, figures, nets, self.tariff)?;
-        lists::copy_into(figures, allotment);
-        ledger::post(allotted, accounts, figures, nets, self.tariff);
+        let worked = hour::work(plants, profile, self.due, metered, figures, nets);
+        let hour = HourView {
+            allotment: figures,
+            nets,
+            tariff: self.tariff,
+        };
+        ask_bounds(ledger, hour)?;
+        lists::copy_into(hour.allotment, allotment);
+        ledger::post(allotted, accounts, hour);
         self.due += 1;
-        Ok(hour)
+        Ok(worked)
     }
 }

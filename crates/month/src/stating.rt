@@ -1,6 +1,7 @@
 // The statement call and the sizing call (document 01, 'The file and its statement').
 ghost use Rattle.std.specs.Prelude.{◌≡◌, ◌≤◌, length};
 ghost use Rattle.refusals.specs.Numbers.{number};
+ghost use Rattle.ledger.specs.Ledger.{viewed};
 ghost use Rattle.statement.specs.Statement.{statement_text, room_for};
 ghost use Rattle.statement.specs.Writing.{Fills};
 ghost use Rattle.statement.specs.Laws.{InLimits};
@@ -8,6 +9,7 @@ ghost use Rattle.month.specs.Answers.{stated, sized};
 ghost use Rattle.month.specs.Statement.{due_number, sizing_number, statement_number, StatementEnd, statement_call, Sizing};
 
 use crate::{Month, Stage};
+use ledger::LedgerView;
 use lists::in_range;
 use plants::Plant;
 use questions::{ask_ledger, ask_rows, periods_in_limits, plants_in_limits};
@@ -24,18 +26,12 @@ pub fn room_for(plants: u64) -> u64
 }
 
 // The statement of these rows, to the front of the text. The answer is its length, and the rest of the text stays.
-pub fn write_rows(
-    settled: u64,
-    plants: &[Plant],
-    allotted: &[u64],
-    accounts: &[i64],
-    text: &mut [u8],
-) -> usize
+pub fn write_rows(settled: u64, plants: &[Plant], ledger: LedgerView<'_>, text: &mut [u8]) -> usize
     requires room { room_for (length plants.now) ≤ length text.old }
-    requires in_limits { InLimits settled plants.now (record { allotted = allotted.now; accounts = accounts.now }) }
-    ensures { Fills (statement_text settled plants.now (record { allotted = allotted.now; accounts = accounts.now })) text.old result text.new }
+    requires in_limits { InLimits settled plants.now (viewed ledger) }
+    ensures { Fills (statement_text settled plants.now (viewed ledger.entry)) text.old result text.new }
 {
-    write_statement(settled, plants, allotted, accounts, text)
+    write_statement(settled, plants, ledger, text)
 }
 
 impl Month {
@@ -53,17 +49,12 @@ impl Month {
 
     // What a sizing call asks: 21 to 14, then 5 to 8, 11, and 19 for the ledger at hand.
     #[tactic(auto, using(refusals::proofs::Asking::asking, questions::proofs::Last::last), unfolding(crate::specs::Statement::sizing_number, lists::specs::Questions::first_no))]
-    pub fn ask_sizing(
-        &self,
-        plants: &[Plant],
-        allotted: &[u64],
-        accounts: &[i64],
-    ) -> Result<(), Refusal>
-        ensures { number result ≡ sizing_number self.now plants.now (record { allotted = allotted.now; accounts = accounts.now }) }
+    pub fn ask_sizing(&self, plants: &[Plant], ledger: LedgerView<'_>) -> Result<(), Refusal>
+        ensures { number result ≡ sizing_number self.now plants.now (viewed ledger.entry) }
     {
         self.ask_due(plants.len() as u64)?;
         ask_rows(plants)?;
-        ask_ledger(self.plants, allotted, accounts)
+        ask_ledger(self.plants, ledger)
     }
 
     // What the statement call asks: as a sizing call, then 22 of the bytes lent.
@@ -71,13 +62,12 @@ impl Month {
     pub fn ask_statement(
         &self,
         plants: &[Plant],
-        allotted: &[u64],
-        accounts: &[i64],
+        ledger: LedgerView<'_>,
         lent: u64,
     ) -> Result<(), Refusal>
-        ensures { number result ≡ statement_number self.now plants.now (record { allotted = allotted.now; accounts = accounts.now }) lent }
+        ensures { number result ≡ statement_number self.now plants.now (viewed ledger.entry) lent }
     {
-        self.ask_sizing(plants, allotted, accounts)?;
+        self.ask_sizing(plants, ledger)?;
         ask(room_for(self.plants) <= lent, Refusal::TextRoom)
     }
 
@@ -86,26 +76,20 @@ impl Month {
     pub fn statement(
         &self,
         plants: &[Plant],
-        allotted: &[u64],
-        accounts: &[i64],
+        ledger: LedgerView<'_>,
         bytes: &mut [u8],
     ) -> Result<usize, Refusal>
-        ensures { ◌≡◌ {A = StatementEnd} (record { answer = stated result self.now; bytes = bytes.new }) (statement_call self.now plants.now (record { allotted = allotted.now; accounts = accounts.now }) bytes.old) }
+        ensures { ◌≡◌ {A = StatementEnd} (record { answer = stated result self.now; bytes = bytes.new }) (statement_call self.now plants.now (viewed ledger.entry) bytes.old) }
     {
-        self.ask_statement(plants, allotted, accounts, bytes.len() as u64)?;
-        Ok(write_rows(self.due - 1, plants, allotted, accounts, bytes))
+        self.ask_statement(plants, ledger, bytes.len() as u64)?;
+        Ok(write_rows(self.due - 1, plants, ledger, bytes))
     }
 
     // A size that the statement does not pass, at most 128P + 128.
-    pub fn statement_size(
-        &self,
-        plants: &[Plant],
-        allotted: &[u64],
-        accounts: &[i64],
-    ) -> Result<u64, Refusal>
-        ensures { Sizing self.now plants.now (record { allotted = allotted.now; accounts = accounts.now }) (sized result self.now) }
+    pub fn statement_size(&self, plants: &[Plant], ledger: LedgerView<'_>) -> Result<u64, Refusal>
+        ensures { Sizing self.now plants.now (viewed ledger.entry) (sized result self.now) }
     {
-        self.ask_sizing(plants, allotted, accounts)?;
+        self.ask_sizing(plants, ledger)?;
         Ok(room_for(self.plants))
     }
 }

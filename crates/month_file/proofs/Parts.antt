@@ -130,39 +130,6 @@ module _ {f : MonthFile} {k : Kept} (v : Valid f k) (line part : List ℕ) (from
 
 -- ---- the part
 
--- the lists have the lengths that they had
-pub record Alike (line₀ : List ℕ) (k₀ : Kept) (line : List ℕ) (k : Kept) : Type 0 where
-  pub bytes : length line ≡ length line₀
-  pub plants : length k.plants ≡ length k₀.plants
-  pub profile : length k.profile ≡ length k₀.profile
-  pub allotted : length k.allotted ≡ length k₀.allotted
-  pub accounts : length k.accounts ≡ length k₀.accounts
-
-module _ {line₀ : List ℕ} {k₀ : Kept} {line : List ℕ} {k : Kept} {line₁ : List ℕ} {k₁ : Kept} where
-  pub alike_more : Alike line₀ k₀ line k → Alike line k line₁ k₁
-      → Alike line₀ k₀ line₁ k₁
-  alike_more a s =
-      record {
-        bytes = s.bytes ∙ a.bytes;
-        plants = s.plants ∙ a.plants;
-        profile = s.profile ∙ a.profile;
-        allotted = s.allotted ∙ a.allotted;
-        accounts = s.accounts ∙ a.accounts;
-      }
-
-pub bytes_alike : {line line₁ : List ℕ} {k : Kept} → length line₁ ≡ length line → Alike line k line₁ k
-bytes_alike l =
-    record {
-      bytes = l;
-      plants = refl;
-      profile = refl;
-      allotted = refl;
-      accounts = refl;
-    }
-
-pub alike_self : {line : List ℕ} {k : Kept} → Alike line k line k
-alike_self = bytes_alike refl
-
 -- a line that has ended, taken
 line_taken : (f : MonthFile) (k : Kept) → Valid f k → f.stage ≢ Refused → (line : List ℕ) {r : MonthFile} {q : Kept}
     → Moved f (read (f.count + 1) (progress_of f k) (whole (take f.length line))) r q → ended (reading_of f k line) ≡ reading_of r q line
@@ -173,22 +140,12 @@ line_taken f k v due line m =
 -- a loop that has taken a part up to a byte
 pub record Feeding (part line₀ : List ℕ) (k₀ : Kept) (f₀ : MonthFile) (line : List ℕ) (k : Kept) (f : MonthFile) (at : ℕ) : Type 0 where
   pub high : at ≤ length part
-  pub room : 8192 ≤ length line
-  pub alike : Alike line₀ k₀ line k
-  pub valid : Valid f k
   pub same : fed (reading_of f₀ k₀ line₀) part ≡ fed (reading_of f k line) (drop at part)
 
 module _ {part line₀ : List ℕ} {k₀ : Kept} {f₀ : MonthFile} where
   module _ {line : List ℕ} {k : Kept} {f : MonthFile} {at : ℕ} (c : Feeding part line₀ k₀ f₀ line k f at) where
     -- a line that has ended is taken
-    pub feeding_line : {f₁ : MonthFile} {line₁ : List ℕ} {to : ℕ} → Stepped f k line part at f₁ line₁ to → length line₁ ≡ length line → {k₁ : Kept} {f₂ : MonthFile} → Moved f₁ (read (f₁.count + 1) (progress_of f₁ k) (whole (take f₁.length line₁))) f₂ k₁
-        → Alike line₁ k line₁ k₁ → Feeding part line₀ k₀ f₀ line₁ k₁ f₂ to
-    feeding_line {f₁} {line₁} {to} s l m w =
-        let a = alike_more (bytes_alike l) w in
-        record {
-          high = s.high;
-          room = omega (arith, c.room, l);
-          alike = alike_more c.alike a;
-          valid = m.valid;
-          same = c.same ∙ s.ends ∙ ap (λ (r : Reading). fed r (drop to part)) (line_taken f₁ k s.valid s.due line₁ m);
-        }
+    pub feeding_line : {f₁ : MonthFile} {line₁ : List ℕ} {to : ℕ} → Stepped f k line part at f₁ line₁ to → {k₁ : Kept} {f₂ : MonthFile}
+        → Moved f₁ (read (f₁.count + 1) (progress_of f₁ k) (whole (take f₁.length line₁))) f₂ k₁ → Feeding part line₀ k₀ f₀ line₁ k₁ f₂ to
+    feeding_line {f₁} {line₁} {to} s m =
+        record { high = s.high; same = c.same ∙ s.ends ∙ ap (λ (r : Reading). fed r (drop to part)) (line_taken f₁ k s.valid s.due line₁ m) }

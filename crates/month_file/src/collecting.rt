@@ -13,6 +13,7 @@ fn line_end(bytes: &[u8]) -> Option<usize>
 }
 
 // Takes bytes from a part to a line that has some, up to a byte 10, the part's end, or where the line is full; answers where they stop.
+// The line's room is asked here and above: a struct with it as a fact would have each of these functions promise that it holds the same list still.
 pub fn collect(part: &[u8], from: usize, line: &mut [u8], at: usize) -> usize
     requires { (from ≤ length part.now) × (at ≤ longest) × (longest ≤ length line.old) }
     ensures { Collected part.now from line.old at result line.new }

@@ -6,16 +6,16 @@ ghost use Rattle.statement.specs.Writing.{Fills};
 ghost use Rattle.file_lines.specs.declared.FileStage.TheVariants as stage;
 ghost use Rattle.file_lines.specs.File.{refusal, printed};
 ghost use Rattle.month_file.specs.Bytes.{finished};
-ghost use Rattle.file_lines.specs.State.{Kept, kept, progress_of, Valid, at_refusal};
+ghost use Rattle.file_lines.specs.State.{Kept, progress_of, Valid, at_refusal};
+ghost use Rattle.file_lines.specs.Lists.{viewed_lists};
 ghost use Rattle.month_file.specs.Machine.{reading_of, unended_number, AtEnd, Finishable};
 
 use figures::writing::write_byte;
+use file_lines::lent::FileView;
 use file_lines::{FileStage, MonthFile};
-use ledger::{ACCOUNTS, ALLOTTED};
 use lines::fields::FIELDS;
 use lines::reading::read_line;
 use month::stating::write_rows;
-use plants::Plant;
 use refusals::Refusal;
 use statement::writing::write_leading;
 
@@ -24,7 +24,7 @@ fn write_refusal(line: u64, number: u64, text: &mut [u8]) -> usize
     requires { 44 ≤ length text.old }
     ensures { Fills (refusal line number) text.old result text.new }
 {
-    let end = write_leading(b'R', line, number, &[0u64; 0], text, 0);
+    let end = write_leading(b'R', line, number, &[], text, 0);
     write_byte(b'\n', text, end)
 }
 
@@ -59,53 +59,33 @@ fn at_end(file: MonthFile, line: &[u8]) -> MonthFile
     file
 }
 
-// Every period is settled: the month is closed, which is not refused here, and its statement written.
+// Every period is settled: the month is closed, which is not refused here, and its statement written. The text's room is asked: a type for it would be
+// made for one call of `finish` alone.
 #[tactic(auto, unfolding(statement::specs::Statement::room_for))]
-fn write_month(
-    file: MonthFile,
-    plants: &[Plant],
-    profile: &[u64],
-    allotted: &[u64],
-    accounts: &[i64],
-    text: &mut [u8],
-) -> usize
-    requires { Finishable file (kept plants.now profile.now allotted.now accounts.now) × (room_for 512 ≤ length text.old) }
-    ensures { Fills (printed file.count (progress_of file (kept plants.now profile.now allotted.now accounts.now))) text.old result text.new }
+fn write_month(file: MonthFile, lists: FileView<'_>, text: &mut [u8]) -> usize
+    requires { Finishable file (viewed_lists lists) × (room_for 512 ≤ length text.old) }
+    ensures { Fills (printed file.count (progress_of file (viewed_lists lists.entry))) text.old result text.new }
 {
     let mut month = file.month;
     if let Err(refusal) = month.close() {
         return write_refusal(file.count, refusal.number(), text);
     }
     let rows = file.month.plants as usize;
-    let fours = ALLOTTED * rows;
-    let twos = ACCOUNTS * rows;
-    write_rows(
-        month.due - 1,
-        &plants[..rows],
-        &allotted[..fours],
-        &accounts[..twos],
-        text,
-    )
+    let ledger = lists.ledger_of(rows);
+    write_rows(month.due - 1, &lists.plants[..rows], ledger, text)
 }
 
-// The input has ended: what is printed stands at the front of the text, and its length is answered.
+// The input has ended: what is printed stands at the front of the text, and its length is answered. The lists are read, as C lends them for this call,
+// so that they fit the state is asked here: to make a file of them they would have to be lent `&mut`.
 #[tactic(auto, unfolding(statement::specs::Statement::room_for))]
-pub fn finish(
-    file: MonthFile,
-    line: &[u8],
-    plants: &[Plant],
-    profile: &[u64],
-    allotted: &[u64],
-    accounts: &[i64],
-    text: &mut [u8],
-) -> usize
+pub fn finish(file: MonthFile, line: &[u8], lists: FileView<'_>, text: &mut [u8]) -> usize
     requires longest_in_bounds { (longest ≤ length line.now) × (room_for 512 ≤ length text.old) }
-    requires valid { Valid file (kept plants.now profile.now allotted.now accounts.now) }
-    ensures { Fills (finished (reading_of file (kept plants.now profile.now allotted.now accounts.now) line.now)) text.old result text.new }
+    requires valid { Valid file (viewed_lists lists) }
+    ensures { Fills (finished (reading_of file (viewed_lists lists.entry) line.now)) text.old result text.new }
 {
     let end = at_end(file, line);
     if end.stage == FileStage::Refused {
         return write_refusal(end.count, end.number, text);
     }
-    write_month(end, plants, profile, allotted, accounts, text)
+    write_month(end, lists, text)
 }

@@ -8,7 +8,7 @@ use native.Mathlib.Omega.{arith}
 use lib.ListN.{length, take, drop}
 use Rattle.lines.specs.Fields.{next_comma, fields, field_number, field_bytes}
 use Rattle.lines.specs.Inner.{first_field, Starts}
-use Rattle.lines.proofs.Commas.{Skipping, skipping, skipping_more, skipped, skipped_all, field_absent, next-high, field_long, field_part}
+use Rattle.lines.proofs.Commas.{Skipping, skipping, skipping_more, skipped, skipped_all, next-high, field_long, field_part}
 use Rattle.lines.proofs.Parts.{start_none, bytes-none, present, start-there, bytes-there}
 use Rattle.places.specs.declared.FieldPlace.{FieldPlace}
 use Rattle.places.specs.Parts.{field_place}
@@ -37,7 +37,7 @@ there l index (suc left) at k s =
     let less : suc left - 1 ≡ left = omega arith in
     by_cases (dec_lt (next_comma l at) (length l))
     (λ h. there l index left (next_comma l at + 1) k (subst (Skipping l index (next_comma l at + 1)) less (skipping_more s (omega arith) refl h)))
-    (λ h. absurd (omega (arith, k, field_absent (skipped_all s (omega arith) refl (omega arith)) (omega arith))))
+    (λ h. absurd (omega (arith, k, skipped_all s (omega arith) refl (omega arith))))
 
 both : (l : List ℕ) (index n : ℕ) → n ≡ field_number l index → ((field_place l index).start + (field_place l index).length ≤ length l)
     × (take (field_place l index).length (drop (field_place l index).start l) ≡ field_bytes l index)

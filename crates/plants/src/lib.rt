@@ -3,7 +3,7 @@
 
 // A plant record: monthly guarantee Q in kWh, loss and availability factors in millionths. C lends a list of these.
 #[repr(C)]
-#[derive(Clone, Copy)]
+#[derive(Clone, Copy, Default)]
 pub struct Plant {
     pub submarket: u64,
     pub number: u64,

@@ -6,6 +6,7 @@ use kept_month::{
     KeptBalance, KeptEnd, KeptMonth, KeptSettle, KeptSized, KeptStated, ended_kept, settled_kept,
     sized_kept, stated_kept,
 };
+use ledger::LedgerView;
 use month::Month;
 use plants::Plant;
 
@@ -61,7 +62,7 @@ pub extern "C" fn iolwarch_balance(
 ) -> KeptBalance
     ensures { result ≡ balance_kept month (record { allotted = allotted.now; accounts = accounts.now }) }
 {
-    kept_month::balance_kept(month, allotted, accounts)
+    kept_month::balance_kept(month, LedgerView { allotted, accounts })
 }
 
 // Month::statement.
@@ -75,8 +76,9 @@ pub extern "C" fn iolwarch_statement(
 ) -> KeptStated
     ensures { ◌≡◌ {A = StatementKeptEnd} (record { answer = result; bytes = bytes.new }) (statement_kept month plants.now (record { allotted = allotted.now; accounts = accounts.now }) bytes.old) }
 {
-    let meant = Month::from(month);
-    stated_kept(month, meant.statement(plants, allotted, accounts, bytes))
+    let ledger = LedgerView { allotted, accounts };
+    let answer = Month::from(month).statement(plants, ledger, bytes);
+    stated_kept(month, answer)
 }
 
 // Month::statement_size.
@@ -89,6 +91,7 @@ pub extern "C" fn iolwarch_statement_size(
 ) -> KeptSized
     ensures { SizeKept month plants.now (record { allotted = allotted.now; accounts = accounts.now }) result }
 {
-    let meant = Month::from(month);
-    sized_kept(month, meant.statement_size(plants, allotted, accounts))
+    let ledger = LedgerView { allotted, accounts };
+    let answer = Month::from(month).statement_size(plants, ledger);
+    sized_kept(month, answer)
 }

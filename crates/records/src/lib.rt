@@ -18,15 +18,6 @@ const AVAILABILITIES: usize = 4 * PLANTS;
 
 pub const COLUMNS: usize = 5 * PLANTS;
 
-// What stands in a place before its row is read.
-const NONE: Plant = Plant {
-    submarket: 0,
-    number: 0,
-    guarantee: 0,
-    loss: 0,
-    availability: 0,
-};
-
 // Writes a record to place i of the five columns.
 fn put_row(columns: &mut [u64], i: usize, plant: Plant)
     requires { (table_places ≤ length columns.old) × (i < 512) }
@@ -58,7 +49,7 @@ pub fn plants_of(columns: &[u64]) -> [Plant; PLANTS]
     requires { table_places ≤ length columns.now }
     ensures { result ≡ rows_of 512 columns.now }
 {
-    let mut plants = [NONE; PLANTS];
+    let mut plants = [Plant::default(); PLANTS];
     for (i, plant) in plants.iter_mut().enumerate() {
         *plant = row_at(columns, i);
     }

@@ -39,3 +39,8 @@ refusal_number OutOfTurn = 31
 abbrev pub number : {A : Type 0} → Result A Refusal → ℕ
 number (Ok a) = 0
 number (Err r) = refusal_number r
+
+-- the number of a call's answer, and its figures; beside a refusal these zeros
+unfoldable pub told : {A : Type 0} → Result A Refusal → A → ℕ × A
+told (Ok a) zeros = (0, a)
+told (Err r) zeros = (refusal_number r, zeros)

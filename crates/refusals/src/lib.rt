@@ -2,7 +2,7 @@
 #![tactic(auto)]
 
 ghost use Rattle.std.specs.Prelude.{◌≡◌, cond};
-ghost use Rattle.refusals.specs.Numbers.{refusal_number, number};
+ghost use Rattle.refusals.specs.Numbers.{refusal_number, number, told};
 
 // Each kind stands for the question that was answered no.
 #[derive(Clone, Copy, PartialEq, Eq, Debug)]
@@ -87,12 +87,23 @@ pub fn ask(yes: bool, refusal: Refusal) -> Result<(), Refusal>
     if yes { Ok(()) } else { Err(refusal) }
 }
 
-// The number of an answer: 0 with every question answered yes.
+// The number of an answer: 0 with every question answered yes. (No `From`: neither `u64` nor `Result` is of this crate.)
 pub fn number_of(answer: Result<(), Refusal>) -> u64
     ensures { result ≡ number answer }
 {
     match answer {
         Ok(()) => 0,
         Err(refusal) => refusal.number(),
+    }
+}
+
+// The number of a call's answer, and its figures: zeros beside a refusal.
+#[tactic(auto, unfolding(crate::specs::Numbers::told))]
+pub fn told<A: Copy>(answer: Result<A, Refusal>, zeros: A) -> (u64, A)
+    ensures { result ≡ told answer zeros }
+{
+    match answer {
+        Ok(figures) => (0, figures),
+        Err(refusal) => (refusal.number(), zeros),
     }
 }

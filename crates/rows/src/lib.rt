@@ -2,117 +2,115 @@
 // All lists have a figure for each plant.
 #![tactic(auto)]
 
-ghost use Rattle.std.specs.Prelude.{◌≡◌, ◌-◌, ◌*◌, ◌^◌, ◌≤◌, ◌<◌, length};
+ghost use Rattle.std.specs.Prelude.{◌≡◌, ℕ, ◌-◌, ◌*◌, ◌^◌, ◌≤◌, ◌<◌, length, get_or};
 ghost use Rattle.std.proofs.Math.IntN.{sub_ℕ};
 ghost use Rattle.lists.specs.Lists.{sum, most, Within};
 ghost use Rattle.lists.specs.Columns.{rowwise, ◌⊕◌, ◌⊖◌, ◌⊓◌, within, four, totals, by_row};
 ghost use Rattle.sharing.specs.Sharing.{share};
-ghost use Rattle.plants.specs.Plants.{submarkets_of};
+ghost use Rattle.plants.specs.Plants.{none, submarkets_of};
 ghost use Rattle.blocks.specs.Portion.{Standing};
 ghost use Rattle.rows.specs.Steps.{covered_by, rights_by};
 
 use plants::Plant;
+use sharing::Weights;
 
-// Step 3: covered guarantees b, of the guarantees a with their sum.
-// One function for this, rights_into and blocks::parts_into would be called with the choice as a flag and two lists, and be no plainer.
-fn covered_into(generation: u64, whole: u64, a: &[u64], b: &mut [u64])
-    requires whole_value { (whole ≡ sum a.now) × (sum a.now < 2 ^ 62) }
-    requires b_len { length b.old ≡ length a.now }
-    ensures { b.new ≡ covered_by share generation a.now }
+// Step 7: rights to secondary energy r. Beside `share_up_to`: test and copied list differ, and one function would take both as arguments.
+fn rights_into(secondary: u64, a: Weights<'_>, metered: &[u64], r: &mut [u64])
+    requires { (length metered.now ≡ length a.figures.now) × (length r.old ≡ length a.figures.now) }
+    ensures { r.new ≡ rights_by share secondary a.entry.figures.now metered.now }
 {
-    if whole <= generation {
-        lists::copy_into(a, b);
-    } else {
-        sharing::share_into(generation, whole, a, b);
-    }
-}
-
-// Step 7: rights to secondary energy r.
-fn rights_into(secondary: u64, whole: u64, a: &[u64], metered: &[u64], r: &mut [u64])
-    requires whole_value { (whole ≡ sum a.now) × (sum a.now < 2 ^ 62) }
-    requires metered_len { (length metered.now ≡ length a.now) × (length r.old ≡ length a.now) }
-    ensures { r.new ≡ rights_by share secondary a.now metered.now }
-{
-    if whole == 0 {
+    if a.total == 0 {
         lists::copy_into(metered, r);
     } else {
-        sharing::share_into(secondary, whole, a, r);
+        sharing::share_into(secondary, a, r);
     }
 }
 
-// Step 4: deficits d.
-fn deficits_into(covered: &[u64], metered: &[u64], d: &mut [u64])
-    requires { (length metered.now ≡ length covered.now) × (length d.old ≡ length covered.now) }
-    ensures { d.new ≡ covered.now ⊖ metered.now }
-{
-    for (i, b) in covered.iter().enumerate() {
-        d[i] = b.saturating_sub(metered[i]);
-    }
-}
-
-// Step 8: nets.
-fn nets_into(metered: &[u64], covered: &[u64], rights: &[u64], nets: &mut [i64])
-    requires covered_len { (length covered.now ≡ length metered.now) × (length rights.now ≡ length metered.now) × (length nets.old ≡ length metered.now) }
-    requires within { Within metered.now most × Within covered.now most × Within rights.now most }
-    ensures { nets.new ≡ rowwise sub_ℕ 0 0 metered.now (covered.now ⊕ rights.now) }
-{
-    for (i, g) in metered.iter().enumerate() {
-        nets[i] = signed::net_of(*g, covered[i], rights[i]);
-    }
-}
-
-// Step 4: the surpluses U of the submarkets.
-#[tactic(auto, using(crate::proofs::Submarkets::placed))]
-fn surplus_by(plants: &[Plant], metered: &[u64], covered: &[u64]) -> [u64; 4]
-    requires metered_len { (length metered.now ≡ length plants.now) × (length covered.now ≡ length plants.now) }
-    requires standing { Standing 0 (submarkets_of plants.now) }
-    requires metered_bound { sum metered.now ≤ most }
-    ensures { result ≡ totals (submarkets_of plants.now) (metered.now ⊖ covered.now) }
-{
-    let mut surplus = [0; 4];
-    for (i, plant) in plants.iter().enumerate() {
-        let s = (plant.submarket - 1) as usize;
-        surplus[s] += metered[i].saturating_sub(covered[i]);
-    }
-    surplus
-}
-
-// Step 8, begun: min(G, b) in the own submarket, zero in the others.
-#[tactic(auto, using(crate::proofs::Submarkets::placed))]
-fn start_into(plants: &[Plant], metered: &[u64], covered: &[u64], allotment: &mut [u64])
-    requires metered_len { (length metered.now ≡ length plants.now) × (length covered.now ≡ length plants.now) }
-    requires allotment_len { length allotment.old ≡ 4 * length plants.now }
-    requires standing { Standing 0 (submarkets_of plants.now) }
-    ensures { allotment.new ≡ by_row 0 (four (λ s. within s (submarkets_of plants.now) (metered.now ⊓ covered.now))) }
-{
-    allotment.fill(0);
-    for (i, plant) in plants.iter().enumerate() {
-        let s = (plant.submarket - 1) as usize;
-        allotment[4 * i + s] = metered[i].min(covered[i]);
-    }
-}
-
-// Step 3, and the rights of step 7: fills b and r from the guarantees a with their sum, and answers Z.
-pub fn share_out(metered: &[u64], whole: u64, a: &[u64], b: &mut [u64], r: &mut [u64]) -> u64
-    requires whole_value { (whole ≡ sum a.now) × (sum a.now < 2 ^ 62) × (sum metered.now < 2 ^ 62) }
-    requires metered_len { (length metered.now ≡ length a.now) × (length b.old ≡ length a.now) × (length r.old ≡ length a.now) }
-    ensures b_after { b.new ≡ covered_by share (sum metered.now) a.now }
-    ensures r_after { r.new ≡ rights_by share (sum metered.now - sum a.now) a.now metered.now }
-    ensures value { result ≡ sum metered.now - sum a.now }
+// Step 3, and the rights of step 7: fills b and r from the guarantees a, and answers Z.
+pub fn share_out(metered: &[u64], a: Weights<'_>, b: &mut [u64], r: &mut [u64]) -> u64
+    requires metered_bound { sum metered.now < 2 ^ 62 }
+    requires metered_len { (length metered.now ≡ length a.figures.now) × (length b.old ≡ length a.figures.now) × (length r.old ≡ length a.figures.now) }
+    ensures b_after { b.new ≡ covered_by share (sum metered.now) a.entry.figures.now }
+    ensures r_after { r.new ≡ rights_by share (sum metered.now - sum a.entry.figures.now) a.entry.figures.now metered.now }
+    ensures value { result ≡ sum metered.now - sum a.entry.figures.now }
 {
     let generation = lists::sum_of(metered);
-    let secondary = generation.saturating_sub(whole);
-    covered_into(generation, whole, a, b);
-    rights_into(secondary, whole, a, metered, r);
+    let secondary = generation.saturating_sub(a.total);
+    sharing::share_up_to(generation, a, b);
+    rights_into(secondary, a, metered, r);
     secondary
 }
 
+// The rows: the plants, each in one of the four submarkets, with a figure of each plant metered, covered and of rights.
+#[derive(Clone, Copy)]
+struct Rows<'a> {
+    plants: &'a [Plant],
+    metered: &'a [u64],
+    covered: &'a [u64],
+    rights: &'a [u64],
+    ghost placed: { (i : ℕ) → i < length plants.now → (1 ≤ (get_or plants.now i none).submarket) × ((get_or plants.now i none).submarket ≤ 4) },
+    ghost metered_len: { length metered.now ≡ length plants.now },
+    ghost covered_len: { length covered.now ≡ length plants.now },
+    ghost rights_len: { length rights.now ≡ length plants.now },
+}
+
+impl Rows<'_> {
+    // Step 4: deficits d.
+    fn deficits_into(self, d: &mut [u64])
+        requires { length d.old ≡ length self.plants.now }
+        ensures { d.new ≡ self.entry.covered.now ⊖ self.entry.metered.now }
+    {
+        // by index, as in `nets_into` and `start_into`: of what a loop over a zip of `iter_mut` wrote, nothing is known after it
+        for (i, b) in self.covered.iter().enumerate() {
+            d[i] = b.saturating_sub(self.metered[i]);
+        }
+    }
+
+    // Step 8: nets.
+    fn nets_into(self, nets: &mut [i64])
+        requires nets_len { length nets.old ≡ length self.plants.now }
+        requires within { Within self.metered.now most × Within self.covered.now most × Within self.rights.now most }
+        ensures { nets.new ≡ rowwise sub_ℕ 0 0 self.entry.metered.now (self.entry.covered.now ⊕ self.entry.rights.now) }
+    {
+        for (i, g) in self.metered.iter().enumerate() {
+            nets[i] = signed::net_of(*g, self.covered[i], self.rights[i]);
+        }
+    }
+
+    // Step 4: the surpluses U of the submarkets.
+    fn surplus(self) -> [u64; 4]
+        requires { sum self.metered.now ≤ most }
+        ensures { result ≡ totals (submarkets_of self.entry.plants.now) (self.entry.metered.now ⊖ self.entry.covered.now) }
+    {
+        let mut surplus = [0; 4];
+        // by index: each row adds to the sum of its own submarket
+        for (i, plant) in self.plants.iter().enumerate() {
+            let s = (plant.submarket - 1) as usize;
+            surplus[s] += self.metered[i].saturating_sub(self.covered[i]);
+        }
+        surplus
+    }
+
+    // Step 8, begun: min(G, b) in the own submarket, zero in the others.
+    fn start_into(self, allotment: &mut [u64])
+        requires { length allotment.old ≡ 4 * length self.plants.now }
+        ensures { allotment.new ≡ by_row 0 (four (λ s. within s (submarkets_of self.entry.plants.now) (self.entry.metered.now ⊓ self.entry.covered.now))) }
+    {
+        allotment.fill(0);
+        for (i, plant) in self.plants.iter().enumerate() {
+            let s = (plant.submarket - 1) as usize;
+            allotment[4 * i + s] = self.metered[i].min(self.covered[i]);
+        }
+    }
+}
+
 // Step 4, and step 8 begun: fills deficits, nets and the allotment's own figures, and answers the surpluses U.
-pub fn prepare(
-    plants: &[Plant],
-    metered: &[u64],
-    covered: &[u64],
-    rights: &[u64],
+#[tactic(auto, using(crate::proofs::Submarkets::placed))]
+pub fn prepare<'a>(
+    plants: &'a [Plant],
+    metered: &'a [u64],
+    covered: &'a [u64],
+    rights: &'a [u64],
     d: &mut [u64],
     nets: &mut [i64],
     allotment: &mut [u64],
@@ -126,8 +124,14 @@ pub fn prepare(
     ensures allotment_after { allotment.new ≡ by_row 0 (four (λ s. within s (submarkets_of plants.now) (metered.now ⊓ covered.now))) }
     ensures value { result ≡ totals (submarkets_of plants.now) (metered.now ⊖ covered.now) }
 {
-    deficits_into(covered, metered, d);
-    nets_into(metered, covered, rights, nets);
-    start_into(plants, metered, covered, allotment);
-    surplus_by(plants, metered, covered)
+    let rows = Rows {
+        plants,
+        metered,
+        covered,
+        rights,
+    };
+    rows.deficits_into(d);
+    rows.nets_into(nets);
+    rows.start_into(allotment);
+    rows.surplus()
 }

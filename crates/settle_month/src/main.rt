@@ -6,13 +6,14 @@ ghost use Rattle.std.specs.Prelude.{◌≡◌, ◌≤◌, true, IfSome, length, 
 ghost use Rattle.std.specs.Io.KnownBytes.{Appends};
 ghost use Rattle.lines.specs.Fields.{longest};
 ghost use Rattle.statement.specs.Statement.{room_for};
-ghost use Rattle.file_lines.specs.State.{kept, Lent, Valid};
+ghost use Rattle.file_lines.specs.State.{at_start};
+ghost use Rattle.file_lines.specs.Lists.{lent_lists, SameLists};
 ghost use Rattle.month_file.specs.Machine.{Fed};
 ghost use Rattle.month_file.specs.Run.{place};
 ghost use Rattle.settle_month.specs.Input.{Taken, Settled};
 
-use file_lines::MonthFile;
 use file_lines::beginning::fresh;
+use file_lines::lent::LentFile;
 use ledger::{ACCOUNTS, ALLOTTED};
 use lines::fields::LONGEST;
 use lists::{PERIODS, PLANTS};
@@ -22,22 +23,13 @@ use plants::Plant;
 use std::io::{Read, Write};
 
 // Feeds the bytes that a read put at the front of the part: all that it answered, and once.
-fn take_part(
-    file: MonthFile,
-    part: &[u8],
-    got: usize,
-    line: &mut [u8],
-    plants: &mut [Plant],
-    profile: &mut [u64],
-    allotted: &mut [u64],
-    accounts: &mut [i64],
-) -> MonthFile
-    requires longest_in_bounds { longest ≤ length line.old }
-    requires valid { Valid file (kept plants.old profile.old allotted.old accounts.old) }
-    ensures { Fed file (kept plants.old profile.old allotted.old accounts.old) line.old (take got part.now) result (kept plants.new profile.new allotted.new accounts.new) line.new }
+fn take_part(file: &mut LentFile<'_, '_, '_, '_>, part: &[u8], got: usize, line: &mut [u8])
+    requires { longest ≤ length line.old }
+    ensures fed { Fed file.old.state (lent_lists file.old) line.old (take got part.now) file.new.state (lent_lists file.new) line.new }
+    ensures same { SameLists file.old file.new }
 {
     let n = got.min(part.len());
-    feed(file, &part[..n], line, plants, profile, allotted, accounts)
+    feed(file, &part[..n], line);
 }
 
 // Feeds what the input holds, part by part, to its end; none where it cannot be read to it. Where the reader says what it gives, these are its bytes, all
@@ -45,23 +37,18 @@ fn take_part(
 // number that no run uses up.
 fn take_input<R: Read>(
     input: &mut R,
-    file: MonthFile,
+    file: &mut LentFile<'_, '_, '_, '_>,
     part: &mut [u8],
     line: &mut [u8],
-    plants: &mut [Plant],
-    profile: &mut [u64],
-    allotted: &mut [u64],
-    accounts: &mut [i64],
-) -> Option<MonthFile>
-    requires longest_in_bounds { longest ≤ length line.old }
-    requires valid { Valid file (kept plants.old profile.old allotted.old accounts.old) }
-    ensures { IfSome result (λ end. Taken (R.remaining input.old) (R.remaining input.new) (length part.old) true (place file (kept plants.old profile.old allotted.old accounts.old) line.old) (place end (kept plants.new profile.new allotted.new accounts.new) line.new)) }
+) -> Option<()>
+    requires { longest ≤ length line.old }
+    ensures taken { IfSome result (λ _. Taken (R.remaining input.old) (R.remaining input.new) (length part.old) true (place file.old.state (lent_lists file.old) line.old) (place file.new.state (lent_lists file.new) line.new)) }
+    ensures same { SameLists file.old file.new }
 {
-    let mut file = file;
     for _ in 0..u64::MAX {
         match input.read(part) {
-            Ok(0) => return Some(file),
-            Ok(got) => file = take_part(file, part, got, line, plants, profile, allotted, accounts),
+            Ok(0) => return Some(()),
+            Ok(got) => take_part(file, part, got, line),
             Err(_) => return None,
         }
     }
@@ -72,27 +59,20 @@ fn take_input<R: Read>(
 // the input cannot be read to its end.
 fn settle_input<R: Read>(
     input: &mut R,
+    file: &mut LentFile<'_, '_, '_, '_>,
     part: &mut [u8],
     line: &mut [u8],
-    plants: &mut [Plant],
-    profile: &mut [u64],
-    allotted: &mut [u64],
-    accounts: &mut [i64],
     text: &mut [u8],
 ) -> Option<usize>
     requires longest_in_bounds { (longest ≤ length line.old) × (room_for 512 ≤ length text.old) }
-    requires lent { Lent (kept plants.old profile.old allotted.old accounts.old) }
+    requires fresh { file.old.state ≡ at_start }
     ensures { Settled (R.remaining input.old) (length part.old) text.old result text.new }
 {
-    let file = fresh();
-    let Some(end) = take_input(input, file, part, line, plants, profile, allotted, accounts) else {
-        return None;
-    };
-    let length = finish(end, line, plants, profile, allotted, accounts, text);
-    Some(length)
+    take_input(input, file, part, line)?;
+    Some(finish(file.state, line, file.view(), text))
 }
 
-// Writes all of the bytes, or answers no.
+// Writes all of the bytes, or answers no. (No `Result`, here and above: `main` tells one message for any error, and shows none.)
 fn wrote<W: Write>(output: &mut W, bytes: &[u8]) -> bool
     ensures { result ≡ true → Appends (W.contents output.old) (W.contents output.new) bytes.now }
 {
@@ -108,27 +88,20 @@ fn tell(rt: &HostRuntime, line: &[u8]) {
 fn main(rt: HostRuntime) {
     let mut part = [0u8; 65536];
     let mut line = [0u8; LONGEST];
-    let mut plants = [Plant {
-        submarket: 0,
-        number: 0,
-        guarantee: 0,
-        loss: 0,
-        availability: 0,
-    }; PLANTS];
+    let mut plants = [Plant::default(); PLANTS];
     let mut profile = [0u64; PERIODS];
     let mut allotted = [0u64; ALLOTTED * PLANTS];
     let mut accounts = [0i64; ACCOUNTS * PLANTS];
     let mut text = [0u8; 128 * PLANTS + 128];
-    let Some(length) = settle_input(
-        &mut rt.stdin(),
-        &mut part,
-        &mut line,
-        &mut plants,
-        &mut profile,
-        &mut allotted,
-        &mut accounts,
-        &mut text,
-    ) else {
+    let mut file = LentFile {
+        state: fresh(),
+        plants: &mut plants,
+        profile: &mut profile,
+        allotted: &mut allotted,
+        accounts: &mut accounts,
+    };
+    let Some(length) = settle_input(&mut rt.stdin(), &mut file, &mut part, &mut line, &mut text)
+    else {
         tell(&rt, b"settle-month: standard input cannot be read\n");
         return;
     };

@@ -3,13 +3,17 @@ use mathlib.Core.Path.{◌≡◌, refl, sym, ap, ap₂, ◌∙◌}
 use mathlib.Core.Logic.{◌⊎◌, inl, inr}
 use Prim.Native.Nat.{ℕ, zero, suc, ◌+◌, ◌-◌, ◌*◌, ◌/◌, ◌≤◌, ◌<◌}
 use native.Mathlib.Omega.{arith}
-use native.Mathlib.Nat.{eq-zero-or-pos, mul-le-mul_left, add-mul-div_right, mul-div_cancel, zero-div, mul-zero, zero-mul, div-zero, le-div_iff_mul-le, div-mul-le_self, le_trans, add-zero, zero-add, add_assoc, sub_self, le_of_suc-le-suc, not-suc-le-zero}
+use native.Mathlib.Nat.{eq-zero-or-pos, mul-le-mul_left, add-mul-div_right, mul-div_cancel, zero-div, mul-zero, zero-mul, div-zero, le-div_iff_mul-le, div-mul-le_self, le_trans, add-zero, zero-add, add_assoc, sub_self, le_of_suc-le-suc, not-suc-le-zero, le_of_eq, le_refl}
+use mathlib.Core.Bool.{Bool, true, false, cond}
 use mathlib.Core.List.{List, [], ◌∷◌, ◌++◌, append-nil}
+use lib.Dec.{leb}
 use lib.ListN.{length, take, replicate}
+use lib.Seq.{ext_get_or}
+use borrow.Author.Tests.{leb-true}
 use Rattle.lists.specs.Lists.{sum}
 use Rattle.lists.proofs.Sums.{at-le-sum, sum-append, sum_zeros}
-use Rattle.lists.proofs.Columns.{◌!◌}
-use Rattle.sharing.specs.Sharing.{Rule, parts, share}
+use Rattle.lists.proofs.Columns.{◌!◌, sum_tight}
+use Rattle.sharing.specs.Sharing.{Rule, parts, share, up_to_weights}
 use Rattle.sharing.specs.Laws.{Lawful, Promised}
 
 -- where the total is no more than the weights, the parts add up to it
@@ -147,3 +151,17 @@ share-at t ws i h = parts_at t (sum ws) 0 ws i h ∙ rw (zero-add, zero-add)
 
 pub promised : Promised
 promised = record { lawful = share-lawful; part = share-at }
+
+-- the whole sum shared: each part is its weight
+share_whole : (ws : List ℕ) → share (sum ws) ws ≡ ws
+share_whole ws =
+    ext_get_or 0 (share (sum ws) ws) ws (share-lawful.sized (sum ws) ws)
+    (λ i _. sum_tight (share (sum ws) ws) ws (share-lawful.bounded (sum ws) ws (le_refl (sum ws))) (le_of_eq (sym (adds-le share-lawful (sum ws) ws (le_refl (sum ws))))) i)
+
+-- where the total is no more than the weights, they bound nothing
+pub up_to_share : (t : ℕ) (ws : List ℕ) → t ≤ sum ws → up_to_weights share t ws ≡ share t ws
+up_to_share t ws h = go (leb (sum ws) t) refl
+  where
+    go : (b : Bool) → leb (sum ws) t ≡ b → cond b ws (share t ws) ≡ share t ws
+    go false e = refl
+    go true e = let k = leb-true (sum ws) t e in sym (ap (λ (n : ℕ). share n ws) (let m : t ≡ sum ws = omega arith in m) ∙ share_whole ws)

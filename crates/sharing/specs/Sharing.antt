@@ -1,5 +1,5 @@
 -- Document 01, 'Sharing'. Assumes nothing.
-use Rattle.std.specs.Prelude.{ℕ, ◌+◌, ◌-◌, ◌*◌, ◌/◌, List, [], ◌∷◌}
+use Rattle.std.specs.Prelude.{ℕ, ◌+◌, ◌-◌, ◌*◌, ◌/◌, cond, leb, List, [], ◌∷◌}
 use Rattle.lists.specs.Lists.{sum}
 
 -- a rule of sharing: the parts of a total T, one for each weight
@@ -18,3 +18,7 @@ parts t w c (x ∷ xs) = part_between t w c (c + x) ∷ parts t w (c + x) xs
 -- T shared over weights with total W and C0 = 0. Here x / 0 is 0, so T = 0 over weights that are all zero gives zeros too
 unfoldable pub share : Rule
 share t ws = parts t (sum ws) 0 ws
+
+-- T shared where it is less than W, else each weight is its own part
+abbrev pub up_to_weights : Rule → Rule
+up_to_weights rule t ws = cond (leb (sum ws) t) ws (rule t ws)

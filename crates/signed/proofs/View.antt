@@ -2,19 +2,15 @@
 --     view_plus, view_neg      what the parts of a sum and a negation are, as facts for `omega`'s list
 --     same_view                two signed numbers with one difference are equal
 --     abs_plus, abs_times      bounds on absolute values
---     sfits_abs                a figure whose absolute value is below 2 ^ 63 fits an `i64`
 -- Assumes nothing.
 use mathlib.Core.Path.{◌≡◌, refl, sym, ap, ◌∙◌}
 use mathlib.Core.Bool.{Bool, true, false, cond}
-use Prim.Native.Nat.{ℕ, zero, suc, ◌+◌, ◌-◌, ◌*◌, ◌^◌, ◌≤◌, ◌<◌}
-use native.Mathlib.Nat.{lt_of_le_of_lt, zero-mul, add-mul}
+use Prim.Native.Nat.{ℕ, zero, suc, ◌+◌, ◌-◌, ◌*◌, ◌≤◌}
+use native.Mathlib.Nat.{zero-mul, add-mul}
 use native.Mathlib.Omega.{arith}
 use borrow.Author.Tests.{ltb-true, ltb-false}
 use lib.Dec.{ltb}
 use lib.IntN.{ℤ, pos, negsuc, neg_ℤ, nat_abs, sub_ℕ, ◌+ℤ◌, ◌*ℤ◌}
-use lib.Signed.{mag}
-use mir.Syntax.{w64}
-use mir.Val.{SFits}
 
 abbrev pub up : ℤ → ℕ
 up (pos n) = n
@@ -106,12 +102,3 @@ abs_neg x = omega (arith, view_neg x, view_abs x, view_abs (neg_ℤ x))
 pub abs_times : (x : ℤ) (t : ℕ) → nat_abs (x *ℤ pos t) ≡ nat_abs x * t
 abs_times (pos a) t = refl
 abs_times (negsuc a) t = abs_neg (pos (suc a * t))
-
--- ---- what fits an `i64`
-
-mag_abs : (z : ℤ) → mag z ≤ nat_abs z
-mag_abs (pos n) = omega arith
-mag_abs (negsuc n) = omega arith
-
-pub sfits_abs : (z : ℤ) → nat_abs z < 2 ^ 63 → SFits w64 z
-sfits_abs z h = record { sfits = lt_of_le_of_lt (mag_abs z) h }

@@ -35,7 +35,7 @@ pub fn times(x: i64, t: u64) -> i64
 pub fn is_within(bound: u64, x: i64) -> bool
     ensures { result ≡ is_within bound x }
 {
-    x.unsigned_abs() <= bound
+    magnitude(x) <= bound
 }
 
 // A figure of a list, added to.

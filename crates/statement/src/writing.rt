@@ -5,9 +5,10 @@ ghost use Rattle.figures.specs.Figures.{Wrote};
 ghost use Rattle.statement.specs.Writing.{fields_text, leading, Even, Stateable, Room, Fills};
 ghost use Rattle.statement.specs.Statement.{plant_line, plant_lines, total_line, statement_text};
 ghost use Rattle.statement.specs.Lengths.{statement_length};
+ghost use Rattle.ledger.specs.Ledger.{viewed};
 
-use figures::writing::{write_byte, write_field, write_signed_field};
-use ledger::{ACCOUNTS, ALLOTTED, MONEY, NET};
+use figures::writing::{write_byte, write_field};
+use ledger::{ACCOUNTS, ALLOTTED, LedgerView, MONEY, NET};
 use plants::Plant;
 
 // Figures, each with a comma before it.
@@ -53,28 +54,22 @@ fn write_plant_line(
     ensures { Wrote (plant_line plant.now figures.now net money) at text.old text.new result }
 {
     let end = write_leading(b'A', plant.submarket, plant.number, figures, text, at);
-    let end = write_signed_field(net, text, end);
-    let end = write_signed_field(money, text, end);
+    let end = write_field(net, text, end);
+    let end = write_field(money, text, end);
     write_byte(b'\n', text, end)
 }
 
-// The A lines, row by row.
-fn write_plant_lines(
-    plants: &[Plant],
-    allotted: &[u64],
-    accounts: &[i64],
-    text: &mut [u8],
-    at: usize,
-) -> usize
-    requires even { Even plants.now allotted.now accounts.now }
-    requires room { Room (plant_lines plants.now allotted.now accounts.now) at text.old }
-    ensures { Wrote (plant_lines plants.now allotted.now accounts.now) at text.old text.new result }
+// The A lines, row by row, by index into the ledger's two lists. Rows and ledger stay two: a struct with `Even` as its fact would be made for one statement.
+fn write_plant_lines(plants: &[Plant], ledger: LedgerView<'_>, text: &mut [u8], at: usize) -> usize
+    requires even { Even plants.now ledger.allotted.now ledger.accounts.now }
+    requires room { Room (plant_lines plants.now ledger.allotted.now ledger.accounts.now) at text.old }
+    ensures { Wrote (plant_lines plants.now ledger.entry.allotted.now ledger.entry.accounts.now) at text.old text.new result }
 {
     let mut end = at;
     for (i, plant) in plants.iter().enumerate() {
-        let figures = &allotted[ALLOTTED * i..ALLOTTED * (i + 1)];
-        let net = accounts[ACCOUNTS * i + NET];
-        let money = accounts[ACCOUNTS * i + MONEY];
+        let figures = &ledger.allotted[ALLOTTED * i..ALLOTTED * (i + 1)];
+        let net = ledger.accounts[ACCOUNTS * i + NET];
+        let money = ledger.accounts[ACCOUNTS * i + MONEY];
         end = write_plant_line(plant, figures, net, money, text, end);
     }
     end
@@ -96,15 +91,14 @@ fn write_total_line(settled: u64, plants: u64, columns: &[u64], text: &mut [u8],
 pub fn write_statement(
     settled: u64,
     plants: &[Plant],
-    allotted: &[u64],
-    accounts: &[i64],
+    ledger: LedgerView<'_>,
     text: &mut [u8],
 ) -> usize
-    requires stateable { Stateable plants.now (record { allotted = allotted.now; accounts = accounts.now }) }
-    requires room { statement_length settled plants.now (record { allotted = allotted.now; accounts = accounts.now }) ≤ length text.old }
-    ensures { Fills (statement_text settled plants.now (record { allotted = allotted.now; accounts = accounts.now })) text.old result text.new }
+    requires stateable { Stateable plants.now (viewed ledger) }
+    requires room { statement_length settled plants.now (viewed ledger) ≤ length text.old }
+    ensures { Fills (statement_text settled plants.now (viewed ledger.entry)) text.old result text.new }
 {
-    let columns = ledger::column_sums(allotted);
-    let end = write_plant_lines(plants, allotted, accounts, text, 0);
+    let columns = ledger::column_sums(ledger.allotted);
+    let end = write_plant_lines(plants, ledger, text, 0);
     write_total_line(settled, plants.len() as u64, &columns, text, end)
 }

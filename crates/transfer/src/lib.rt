@@ -11,16 +11,18 @@ ghost use Rattle.refusals.specs.Numbers.{number};
 ghost use Rattle.transfer.specs.Calls.{apart, transfer_number, transfer_call, transferred};
 
 use lists::{MOST, at_most, sum_of};
-use refusals::{Refusal, ask};
+use refusals::{Refusal, ask, told};
+use sharing::Weights;
+use std::array;
 
 // A transfer table: four rows of four, giver by receiver. C reads it and the answer below as they stand.
 #[repr(C)]
-#[derive(Clone, Copy)]
+#[derive(Clone, Copy, Default)]
 pub struct Table {
     pub rows: [[u64; 4]; 4],
 }
 
-// The answer of the transfer step: the number, and the table beside it.
+// The answer of the transfer step as C reads it: the number, and the table beside it.
 #[repr(C)]
 #[derive(Clone, Copy)]
 pub struct Transferred {
@@ -33,9 +35,13 @@ pub fn share_four(t: u64, weights: [u64; 4]) -> [u64; 4]
     requires { sum weights < 2 ^ 62 }
     ensures { result ≡ share t weights }
 {
-    let w = sum_of(&weights);
+    let total = sum_of(&weights);
     let mut parts = [0u64; 4];
-    sharing::share_into(t, w, &weights, &mut parts);
+    let weights = Weights {
+        figures: &weights,
+        total,
+    };
+    sharing::share_into(t, weights, &mut parts);
     parts
 }
 
@@ -44,15 +50,11 @@ pub fn less(left: [u64; 4], given: [u64; 4]) -> [u64; 4]
     requires { Below given left }
     ensures { result ≡ left ⊖ given }
 {
-    [
-        left[0] - given[0],
-        left[1] - given[1],
-        left[2] - given[2],
-        left[3] - given[3],
-    ]
+    array::from_fn(|i| left[i] - given[i])
 }
 
 // Step 5: needs served 1 to 4, each shared over what the four still have left.
+// What is left and the needs are no struct: C passes the two apart, and what binds them is asked at one place, in `transfer`.
 pub fn transfer_step(left: [u64; 4], need: [u64; 4]) -> [[u64; 4]; 4]
     requires { (sum left < 2 ^ 62) × (sum need ≤ sum left) }
     ensures { result ≡ transfer share left need }
@@ -64,6 +66,7 @@ pub fn transfer_step(left: [u64; 4], need: [u64; 4]) -> [[u64; 4]; 4]
     let c = share_four(need[2], left);
     let left = less(left, c);
     let d = share_four(need[3], left);
+    // the four are the table's columns
     [
         [a[0], b[0], c[0], d[0]],
         [a[1], b[1], c[1], d[1]],
@@ -72,7 +75,8 @@ pub fn transfer_step(left: [u64; 4], need: [u64; 4]) -> [[u64; 4]; 4]
     ]
 }
 
-// The sum of row g: what a submarket gives.
+// The sum of row g: what a submarket gives. Four places by hand, here and below: that an iterator's `sum` fits is asked of each run of it,
+// and the check doesn't find that from these clauses.
 pub fn row_sum(table: [[u64; 4]; 4], g: usize) -> u64
     requires { (g < 4) × (row_sum table g < 2 ^ 64) }
     ensures { result ≡ row_sum table g }
@@ -127,13 +131,9 @@ pub fn transfer(left: [u64; 4], need: [u64; 4]) -> Result<Table, Refusal>
 impl From<Result<Table, Refusal>> for Transferred {
     ghost from_gives = { λ answer given. given ≡ transferred answer };
 
+    #[tactic(auto, unfolding(refusals::specs::Numbers::told))]
     fn from(answer: Result<Table, Refusal>) -> Transferred {
-        match answer {
-            Ok(table) => Transferred { number: 0, table },
-            Err(refusal) => Transferred {
-                number: refusal.number(),
-                table: Table { rows: [[0; 4]; 4] },
-            },
-        }
+        let (number, table) = told(answer, Table::default());
+        Transferred { number, table }
     }
 }

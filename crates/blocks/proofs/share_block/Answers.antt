@@ -30,5 +30,5 @@ returns-then-amount-eq0 c =
 pub hand_over-requires-clause-below : goal.hand_over-requires-clause-below
 hand_over-requires-clause-below c =
     let d = (goal.at.hand_over-requires-clause-below c).Start in
-    rw (front_parts c.args.n (parts d) _ c.parts_into.ensures (sized d))
+    rw (front_parts c.args.n c.args.want.now c.requires.n_in_bounds.0 c.args.amount _ (omega arith) c.share_up_to.ensures)
     (parts_below c.args.n c.args.want.now c.requires.n_in_bounds.0 c.args.amount (omega arith), c.requires.total_value.3)

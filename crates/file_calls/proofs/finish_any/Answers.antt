@@ -3,8 +3,8 @@ use mathlib.Core.Path.{refl}
 use Rattle.file_calls.proofs.Checked.{finish_good}
 use Rattle.file_calls.proofs.finish_any.Goals as goal
 
-pub finish-written-requires-clause-longest_in_bounds : goal.finish-written-requires-clause-longest_in_bounds
-finish-written-requires-clause-longest_in_bounds c = (finish_good c.in_ok-ask_finish.ensures refl).0
+pub finish-requires-clause-longest_in_bounds : goal.finish-requires-clause-longest_in_bounds
+finish-requires-clause-longest_in_bounds c = (finish_good c.in_ok-ask_finish.ensures refl).0
 
-pub finish-written-requires-clause-valid : goal.finish-written-requires-clause-valid
-finish-written-requires-clause-valid c = (finish_good c.in_ok-ask_finish.ensures refl).1
+pub finish-requires-clause-valid : goal.finish-requires-clause-valid
+finish-requires-clause-valid c = (finish_good c.in_ok-ask_finish.ensures refl).1

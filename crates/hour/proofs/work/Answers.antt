@@ -65,11 +65,14 @@ module _ (c : Start) (starts : List ℕ) (e : starts ≡ block_starts (submarket
 pub guarantees_of-guarantees-requires-clause-le_period : goal.guarantees_of-guarantees-requires-clause-le_period
 guarantees_of-guarantees-requires-clause-le_period c = let w = c.requires in (w.begun, w.due, w.whole, hours-small _ w.periods w.hourly)
 
-pub share_out-secondary-requires-clause-whole_value : goal.share_out-secondary-requires-clause-whole_value
-share_out-secondary-requires-clause-whole_value c =
+pub share_out-secondary-requires-clause-metered_bound : goal.share_out-secondary-requires-clause-metered_bound
+share_out-secondary-requires-clause-metered_bound c = let w = c.requires in let g = w.generation in omega arith
+
+pub invariant_of-a : goal.invariant_of-a
+invariant_of-a c =
     let w = c.requires in
     let e : sum c.guarantees_of-guarantees.new.a ≤ 512 * 10 ^ 12 = rw (c.guarantees_of-guarantees.ensures.a_after ∙ sym (guarantees_are w)) (guarantees-small w) in
-    (c.guarantees_of-guarantees.ensures.value, omega arith, (let g = w.generation in omega arith))
+    record { adds = c.guarantees_of-guarantees.ensures.value; small = omega arith }
 
 pub prepare-surplus-requires-clause-metered_bound : goal.prepare-surplus-requires-clause-metered_bound
 prepare-surplus-requires-clause-metered_bound c =

@@ -1,9 +1,13 @@
 -- What was fed so far are the bytes that the reader gave so far.
-use Rattle.file_lines.specs.State.{kept}
-use Rattle.settle_month.proofs.Parts.{Taking}
+use mathlib.Core.Bool.{false}
+use lib.ListN.{length}
+use Rattle.file_lines.specs.Lists.{lent_lists, SameLists}
+use Rattle.month_file.specs.Run.{place}
+use Rattle.settle_month.specs.Input.{Taken}
 use Rattle.settle_month.proofs.take_input.Given as goal
 
 abbrev pub invariant-loop : goal.invariant-loop
 invariant-loop g l =
     let o = l.initial in
-    Taking (g.R.Read.remaining o.input) (g.R.Read.remaining l.input) o.part o.line (kept o.plants o.profile o.allotted o.accounts) o.file l.part l.line (kept l.plants l.profile l.allotted l.accounts) l.file
+    (Taken (g.R.Read.remaining o.input) (g.R.Read.remaining l.input) (length o.part) false (place o.file.state (lent_lists o.file) o.line) (place l.file.state (lent_lists l.file) l.line))
+    × SameLists o.file l.file

@@ -5,7 +5,7 @@ use Prim.Native.Nat.{◌+◌, ◌≤◌}
 use native.Mathlib.Omega.{arith}
 use lib.ListN.{get_or}
 use Rattle.lists.specs.Lists.{sum}
-use Rattle.lists.proofs.Loops.{loops, adding_le, adding_next, filling_more, filled, drop_more, rest_more, rest-none}
+use Rattle.lists.proofs.Loops.{adding_le, adding_next, filling_more, filled, drop_more, rest_more, rest-none}
 use Rattle.sharing.specs.Sharing.{parts, share}
 use Rattle.sharing.proofs.Sharing.{parts-cons, parts-nil}
 use Rattle.sharing.proofs.share_into.Goals as goal
@@ -13,7 +13,7 @@ use Rattle.sharing.proofs.share_into.Goals.{In-loop-i}
 
 -- what a turn knows: the running total with one weight more stays within the sum
 more : (c : In-loop-i)
-    → let ws = c.args.weights.now in c.loop-i.c + get_or ws c.loop-i.i 0 ≤ sum ws
+    → let ws = c.args.weights.figures.now in c.loop-i.c + get_or ws c.loop-i.i 0 ≤ sum ws
 more c = adding_le c.loop-i.invariant.1 (drop_more _ _ 0 c.loop-i-test.true)
 
 pub mul_div-up_to-requires : goal.mul_div-up_to-requires
@@ -29,8 +29,8 @@ loop-i-preserved c = let inv = c.loop-i.invariant in
 
 pub returns : goal.returns
 unfolding share
-returns c = rw (← c.requires.w_value.0)
+returns c = rw (← c.args.weights.adds)
     (filled c.loop-i.invariant.2 c.loop-i-test.false (rest-none (parts _ _ _) _ _ c.loop-i-test.false ∙ parts-nil _ _ _))
 
 pub overflow_add-c : goal.overflow_add-c
-overflow_add-c c = search loops
+overflow_add-c c = record { fits = omega (arith, more (goal.at.overflow_add-c c).In-loop-i) }

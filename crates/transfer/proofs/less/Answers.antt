@@ -1,8 +1,14 @@
 -- `transfer::less` meets its contract. Assumes nothing.
-use mathlib.Core.Path.{sym}
+use mathlib.Core.Path.{sym, ◌∙◌}
 use Prim.Native.Nat.{◌-◌}
-use Rattle.lists.proofs.Columns.{rowwise-table}
+use native.Mathlib.Omega.{arith}
+use borrow.Author.Rules.{rules}
+use lib.Seq.{ext_get_or}
+use Rattle.lists.specs.Columns.{◌⊖◌}
+use Rattle.lists.proofs.Columns.{length-rowwise, at-⊖}
 use Rattle.transfer.proofs.less.Goals as goal
 
 pub returns : goal.returns
-returns c = sym (rowwise-table ◌-◌ 0 0 4 _ _ c.well_formed.0.1.0.1 c.well_formed.1.0.1.0.1)
+returns c = let e = c.from_fn.ensures.items in
+    ext_get_or 0 c.from_fn.result (c.args.left ⊖ c.args.given) (e.long ∙ (let a = length-rowwise ◌-◌ 0 0 c.args.left c.args.given in omega (arith, c.well_formed.0.1.0.1, c.well_formed.1.0.1.0.1)))
+    (λ i h. let k = e.at i 0 (omega (arith, e.long)) in search rules ∙ sym (at-⊖ c.args.left c.args.given i))

@@ -8,7 +8,7 @@ use Rattle.wide.proofs.next_digit.Goals.{Start}
 known : (g : Over) (c : Start g) → let a = c.args in Step a.t a.c (g.D.Divisor.number a.divisor) g.D.Divisor.RADIX a.high.quot a.high.rest
 known g c = let a = c.args in
     let p = c.requires in
-    step a.t a.c (g.D.Divisor.number a.divisor) g.D.Divisor.RADIX a.high.quot a.high.rest c.ranges.t.fits p.c_le_w.0 p.c_le_w.1
+    step a.t a.c (g.D.Divisor.number a.divisor) g.D.Divisor.RADIX a.high.quot a.high.rest c.ranges.t.fits p.c_le_w (g.met.D.Divisor.above a.divisor)
     p.quot_value.0 p.quot_value.1
 
 pub overflow_mul-result : goal.overflow_mul-result

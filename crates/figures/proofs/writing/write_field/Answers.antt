@@ -1,8 +1,6 @@
 -- `writing::write_field` meets its contract. Assumes nothing.
-use Rattle.figures.specs.Figures.{figure_length}
 use Rattle.figures.proofs.Written.{wrote_next}
 use Rattle.figures.proofs.writing.write_field.Goals as goal
 
 pub returns : goal.returns
-unfolding figure_length
-returns c = wrote_next c.write_byte-next.ensures c.write_figure.ensures c.requires
+returns g c = wrote_next c.write_byte-next.ensures c.write.ensures c.requires

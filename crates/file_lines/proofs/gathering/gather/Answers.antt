@@ -1,15 +1,18 @@
 -- `gathering::gather` meets its contract. Assumes nothing.
-use Rattle.file_lines.proofs.Gathered.{row_moved, figure_moved, openable, last_moved}
+use Rattle.file_lines.proofs.Gathered.{row_moved, figure_moved, last_moved}
 use Rattle.file_lines.proofs.gathering.gather.Goals as goal
 
-pub returns-then-row-file : goal.returns-then-row-file
-returns-then-row-file c = rw c.plant_of.ensures (row_moved c.requires.stage_value.0 c.requires.valid c.args.figures.now c.if-row-file.true _ c.at_stage.ensures)
+pub returns-then-row-state-clause-moved : goal.returns-then-row-state-clause-moved
+returns-then-row-state-clause-moved c = rw c.plant_of.ensures (row_moved c.requires.0 c.args.file.now.valid c.args.figures.now c.if-row-state.true _ c.at_stage.ensures)
 
-pub returns-then-at-file : goal.returns-then-at-file
-returns-then-at-file c = figure_moved c.requires.stage_value.0 c.requires.valid c.args.figures.now c.if-row-file.false c.if-at-file.true _ c.at_stage-then-at-file.ensures
+pub invariant_of-file : goal.invariant_of-file
+invariant_of-file c = record { valid = rw c.plant_of.ensures (row_moved c.requires.0 c.args.file.now.valid c.args.figures.now c.if-row-state.true _ c.at_stage.ensures).valid }
 
-pub open_month-requires : goal.open_month-requires
-open_month-requires c = openable c.requires.stage_value.0 c.requires.valid c.args.figures.now c.if-row-file.false c.if-at-file.false
+pub returns-then-at-state-clause-moved : goal.returns-then-at-state-clause-moved
+returns-then-at-state-clause-moved c = figure_moved c.requires.0 c.args.file.now.valid c.args.figures.now c.if-row-state.false c.if-at-state.true _ c.at_stage-then-at-state.ensures
 
-pub returns : goal.returns
-returns c = last_moved c.requires.stage_value.0 c.requires.valid c.args.figures.now c.if-row-file.false c.if-at-file.false c.open_month.ensures
+pub invariant_of-file-then-at-state : goal.invariant_of-file-then-at-state
+invariant_of-file-then-at-state c = record { valid = (figure_moved c.requires.0 c.args.file.now.valid c.args.figures.now c.if-row-state.false c.if-at-state.true _ c.at_stage-then-at-state.ensures).valid }
+
+pub returns-clause-moved : goal.returns-clause-moved
+returns-clause-moved c = last_moved c.requires.0 c.args.file.now.valid c.args.figures.now c.if-row-state.false c.if-at-state.false c.open_month.ensures.moved

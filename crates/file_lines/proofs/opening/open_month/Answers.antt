@@ -3,5 +3,8 @@ use Rattle.file_lines.proofs.Moves.{blank_is}
 use Rattle.file_lines.proofs.Opened.{opening_answered}
 use Rattle.file_lines.proofs.opening.open_month.Goals as goal
 
-pub returns : goal.returns
-returns c = opening_answered c.requires (blank_is c.default-month.result c.default-month.ensures) c.open-answer.ensures c.open-answer.auto.allotted c.open-answer.auto.accounts c.after.ensures
+pub returns-clause-moved : goal.returns-clause-moved
+returns-clause-moved c = opening_answered c.requires (blank_is c.default-month.result c.default-month.ensures) c.open-answer.ensures c.open-answer.auto.allotted c.open-answer.auto.accounts c.after-file.ensures
+
+pub invariant_of-file : goal.invariant_of-file
+invariant_of-file c = record { valid = (opening_answered c.requires (blank_is c.default-month.result c.default-month.ensures) c.open-answer.ensures c.open-answer.auto.allotted c.open-answer.auto.accounts c.after-file.ensures).valid }

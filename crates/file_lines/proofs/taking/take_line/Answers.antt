@@ -2,29 +2,29 @@
 use mathlib.Core.Path.{refl, sym, ◌∙◌}
 use Rattle.lists.proofs.Parts.{front_count}
 use Rattle.refusals.proofs.Asking.{refused_number}
-use Rattle.file_lines.proofs.Taken.{few-lines, places, many_places, reading_refused, fits, out_of_turn, figures_in_turn, line_taken}
+use Rattle.file_lines.proofs.Taken.{places, many_places, reading_refused, fits, out_of_turn, figures_in_turn, line_taken}
 use Rattle.file_lines.proofs.taking.take_line.Goals as goal
 
-pub refused-requires : goal.refused-requires
-refused-requires c = few-lines c.requires.valid c.requires.going
-
-pub returns-in-Err : goal.returns-in-Err
-returns-in-Err c = reading_refused c.requires.valid c.requires.going _ places _ _ many_places c.in-Err.ensures _ c.refused.ensures (λ z. refused_number c.in-Err.refusal z)
-
-pub returns-then-not-in_turn : goal.returns-then-not-in_turn
-returns-then-not-in_turn c = out_of_turn c.requires.valid c.requires.going _ places _ _ many_places c.in-Ok.ensures refl _ c.refused-then-not-in_turn.ensures (sym c.in_turn.ensures ∙ c.if-not-in_turn.true)
-
 pub slice_bounds-figures-end : goal.slice_bounds-figures-end
-slice_bounds-figures-end c = fits c.requires.valid c.requires.going _ places _ _ many_places c.in-Ok.ensures refl c.read_line.auto.figures
+slice_bounds-figures-end c = fits c.args.file.now.valid c.requires _ places _ _ many_places c.in-Ok.ensures refl c.read_line.auto.figures
 
 pub slice_bounds-take_figures-end : goal.slice_bounds-take_figures-end
-slice_bounds-take_figures-end c = front_count _ _ (fits c.requires.valid c.requires.going _ places _ _ many_places c.in-Ok.ensures refl c.read_line.auto.figures)
+slice_bounds-take_figures-end c = front_count _ _ (fits c.args.file.now.valid c.requires _ places _ _ many_places c.in-Ok.ensures refl c.read_line.auto.figures)
 
 pub take_figures-requires : goal.take_figures-requires
-take_figures-requires c = record {
-  figured = figures_in_turn c.requires.valid c.requires.going _ places _ _ many_places c.in-Ok.ensures refl (sym c.in_turn.ensures ∙ c.if-not-in_turn.false);
-  valid = c.requires.valid;
-}
+take_figures-requires c = figures_in_turn c.args.file.now.valid c.requires _ places _ _ many_places c.in-Ok.ensures refl (sym c.in_turn.ensures ∙ c.if-in_turn.true)
 
-pub returns : goal.returns
-returns c = line_taken c.requires.valid c.requires.going _ places _ _ many_places c.in-Ok.ensures refl (sym c.in_turn.ensures ∙ c.if-not-in_turn.false) c.take_figures.ensures
+pub returns-in-Ok-clause-moved : goal.returns-in-Ok-clause-moved
+returns-in-Ok-clause-moved c = line_taken c.args.file.now.valid c.requires _ places _ _ many_places c.in-Ok.ensures refl (sym c.in_turn.ensures ∙ c.if-in_turn.true) c.take_figures.ensures.moved
+
+pub returns-in-Ok-2-clause-moved : goal.returns-in-Ok-2-clause-moved
+returns-in-Ok-2-clause-moved c = out_of_turn c.args.file.now.valid c.requires _ places _ _ many_places c.in-Ok.ensures refl _ c.refused-file.ensures (sym c.in_turn.ensures ∙ c.if-in_turn.false)
+
+pub invariant_of-file : goal.invariant_of-file
+invariant_of-file c = record { valid = (out_of_turn c.args.file.now.valid c.requires _ places _ _ many_places c.in-Ok.ensures refl _ c.refused-file.ensures (sym c.in_turn.ensures ∙ c.if-in_turn.false)).valid }
+
+pub returns-in-Err-clause-moved : goal.returns-in-Err-clause-moved
+returns-in-Err-clause-moved c = reading_refused c.args.file.now.valid c.requires _ places _ _ many_places c.in-Err.ensures _ c.refused-file-in-Err.ensures (λ z. refused_number c.in-Err.refusal z)
+
+pub invariant_of-file-in-Err : goal.invariant_of-file-in-Err
+invariant_of-file-in-Err c = record { valid = (reading_refused c.args.file.now.valid c.requires _ places _ _ many_places c.in-Err.ensures _ c.refused-file-in-Err.ensures (λ z. refused_number c.in-Err.refusal z)).valid }

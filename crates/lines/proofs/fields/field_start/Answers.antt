@@ -2,11 +2,8 @@
 use mathlib.Core.Path.{◌≡◌}
 use Prim.Native.Nat.{◌+◌, ◌-◌}
 use native.Mathlib.Omega.{arith}
-use Rattle.lines.proofs.Commas.{skipping_more, skipped, skipped_all, next-high}
+use Rattle.lines.proofs.Commas.{skipping_more, skipped_all}
 use Rattle.lines.proofs.fields.field_start.Goals as goal
-
-pub overflow_add-result : goal.overflow_add-result
-overflow_add-result c = omega (arith, c.well_formed.0.1, next-high c.args.line.now c.loop-passed.at c.loop-passed.invariant.inside)
 
 pub returns-then-line-end : goal.returns-then-line-end
 returns-then-line-end c = skipped_all c.loop-passed.invariant (omega arith) c.next_comma-end.ensures c.if-line-end.true
@@ -15,6 +12,3 @@ pub loop-passed-preserved : goal.loop-passed-preserved
 loop-passed-preserved c =
     let one_less : c.args.index - c.loop-passed._passed - 1 ≡ c.args.index - (c.loop-passed._passed + 1) = omega arith in
     rw one_less at (skipping_more c.loop-passed.invariant (omega arith) c.next_comma-end.ensures c.if-line-end.false)
-
-pub returns : goal.returns
-returns c = skipped c.loop-passed.invariant (omega arith)

@@ -18,7 +18,7 @@ use Rattle.refusals.specs.declared.Refusal.{Refusal}
 use Rattle.refusals.specs.declared.Refusal.TheVariants.{NotFigure}
 use Rattle.lines.specs.Fields.{fields}
 use Rattle.lines.proofs.Commas.{split_fields}
-use Rattle.lines.proofs.Lines.{turn_of, end_of, gathering, gathering_more, gathering_stopped, gathered_number, gathered}
+use Rattle.lines.proofs.Lines.{turn_of, end_of, gathering_more, gathering_stopped, gathered_number, gathered}
 use Rattle.lines.proofs.reading.read_fields.Goals as goal
 use Rattle.lines.proofs.reading.read_fields.Goals.{In-Some, In-None}
 
@@ -51,9 +51,6 @@ all c =
     end_of c.loop-i.yielded c.loop-i.i-iterator c.next.new.self c.loop-i.yielded_by c.next.ensures.steps c.in-None.is
     (YieldsList-at c.into_iter-i-iterator.ensures.into_iter_gives (YieldsList-from_enumerate (YieldsList-at q.source (YieldsList-from_slice_split _ (λ b. eqb b 44) c.args.bytes.now p.rest p.done p.closure (λ b r f k. search rules))) q.count))
     ∙ length-enumerate_from 0 _ ∙ ap length (split_fields c.args.bytes.now)
-
-pub loop-i-init : goal.loop-i-init
-loop-i-init c = gathering c.requires
 
 pub bounds-figures-i : goal.bounds-figures-i
 bounds-figures-i c = let t = turn (goal.at.bounds-figures-i c).In-Some in omega (arith, t.0, t.1, c.requires)

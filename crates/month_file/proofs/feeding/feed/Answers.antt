@@ -1,7 +1,7 @@
 -- `feeding::feed` meets its contract. Assumes nothing.
-use mathlib.Core.Path.{refl}
+use borrow.Author.Rules.{rules}
 use Rattle.month_file.proofs.Parts.{feeding_line}
 use Rattle.month_file.proofs.feeding.feed.Goals as goal
 
 pub loop-next-preserved : goal.loop-next-preserved
-loop-next-preserved c = let w = c.take_line-f in feeding_line c.loop-next.invariant (c.in-Some.ensures _ c.loop-next.invariant.valid) c.next_line.auto.line w.ensures (record { bytes = refl; plants = w.auto.plants; profile = w.auto.profile; allotted = w.auto.allotted; accounts = w.auto.accounts })
+loop-next-preserved c = (feeding_line c.loop-next.invariant.0 (c.in-Some.ensures _ c.loop-next.file.valid) c.take_line.ensures.moved, search rules)

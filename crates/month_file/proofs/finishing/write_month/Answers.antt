@@ -2,7 +2,6 @@
 use mathlib.Core.Path.{refl}
 use Rattle.refusals.proofs.Asking.{refused_number}
 use Rattle.month.specs.Statement.{statement_of}
-use Rattle.file_lines.specs.State.{ledger_of}
 use Rattle.month_file.proofs.Ends.{some-due, in_limits, closing_stated, closing_refused}
 use Rattle.month_file.proofs.finishing.write_month.Goals as goal
 
@@ -13,9 +12,8 @@ pub overflow_sub-month : goal.overflow_sub-month
 overflow_sub-month c = some-due c.requires.0 _ c.in_default.ensures
 
 pub write_rows-requires-clause-in_limits : goal.write_rows-requires-clause-in_limits
-unfolding ledger_of
-write_rows-requires-clause-in_limits c = in_limits c.requires.0 _ c.in_default.ensures
+write_rows-requires-clause-in_limits c = rw c.ledger_of-ledger.ensures (in_limits c.requires.0 _ c.in_default.ensures)
 
 pub returns : goal.returns
-unfolding ledger_of statement_of
-returns c = closing_stated c.requires.0 _ c.in_default.ensures refl c.write_rows.ensures
+unfolding statement_of
+returns c = closing_stated c.requires.0 _ c.in_default.ensures refl (rw (← c.ledger_of-ledger.ensures) c.write_rows.ensures)

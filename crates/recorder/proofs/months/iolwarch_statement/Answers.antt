@@ -3,4 +3,4 @@ use Rattle.kept_month.proofs.Kept.{states}
 use Rattle.recorder.proofs.months.iolwarch_statement.Goals as goal
 
 pub returns : goal.returns
-returns c = states _ _ _ _ _ c.statement.result c.from-meant.ensures c.statement.ensures c.stated_kept.ensures
+returns c = states _ _ _ _ _ c.statement-answer.result c.from.ensures c.statement-answer.ensures c.stated_kept.ensures

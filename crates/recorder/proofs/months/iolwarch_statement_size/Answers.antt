@@ -3,4 +3,4 @@ use Rattle.kept_month.proofs.Kept.{sizes}
 use Rattle.recorder.proofs.months.iolwarch_statement_size.Goals as goal
 
 pub returns : goal.returns
-returns c = sizes _ _ _ c.statement_size.result c.from-meant.ensures c.statement_size.ensures c.sized_kept.ensures
+returns c = sizes _ _ _ c.statement_size-answer.result c.from.ensures c.statement_size-answer.ensures c.sized_kept.ensures

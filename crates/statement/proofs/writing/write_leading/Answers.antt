@@ -3,7 +3,7 @@ use mathlib.Core.Path.{refl}
 use mathlib.Core.List.{List, [], ◌∷◌, ◌++◌}
 use Prim.Native.Nat.{ℕ}
 use native.Mathlib.Omega.{arith}
-use Rattle.figures.specs.Figures.{figure, commas_before, figure_length, Wrote}
+use Rattle.figures.specs.Figures.{figure, commas_before, Wrote}
 use Rattle.statement.specs.Writing.{fields_text, leading, Room}
 use Rattle.statement.proofs.Parts.{Left, left_all, left-room, left-more, left-fits, left-last}
 use Rattle.statement.proofs.writing.write_leading.Goals as goal
@@ -35,11 +35,9 @@ pub write_byte-end-requires : goal.write_byte-end-requires
 write_byte-end-requires c = omega (arith, (left-room (at-start c.args.letter c.args.x c.args.y c.args.figures.now c.requires) (c.args.letter ∷ []) _ refl).fits)
 
 pub write_field-end-requires : goal.write_field-end-requires
-unfolding figure_length
 write_field-end-requires c = (left-room (at_first c.args.letter c.args.x c.args.y c.args.figures.now c.requires c.write_byte-end.ensures) (44 ∷ figure c.args.x) _ refl).fits
 
 pub write_field-end-requires-2 : goal.write_field-end-requires-2
-unfolding figure_length
 write_field-end-requires-2 c = (left-room (at_second c.args.letter c.args.x c.args.y c.args.figures.now c.requires c.write_byte-end.ensures c.write_field-end.ensures) (44 ∷ figure c.args.y) _ refl).fits
 
 pub write_fields-requires : goal.write_fields-requires

@@ -7,7 +7,7 @@ use lib.IntN.{ℤ}
 use mir.Syntax.{w64}
 use mir.Val.{to_z, of_z}
 use mir.Facts.{to_z-of_z}
-use Rattle.figures.specs.Figures.{signed_figure, signed_figure_length, Wrote}
+use Rattle.figures.specs.Figures.{signed_figure, Wrote}
 use Rattle.plants.specs.declared.Plant.{Plant}
 use Rattle.statement.specs.Statement.{plant_line}
 use Rattle.statement.specs.Writing.{leading, Room}
@@ -47,19 +47,17 @@ module _ (p : Plant) (figures : List ℕ) (net money : ℤ) {at : ℕ} {text : L
 pub write_leading-end-requires : goal.write_leading-end-requires
 write_leading-end-requires c = left-room (at-start c.args.plant.now c.args.figures.now c.args.net c.args.money c.requires) _ _ refl
 
-pub write_signed_field-end-requires : goal.write_signed_field-end-requires
-unfolding signed_figure_length
-write_signed_field-end-requires c = (left-room (at-net c.args.plant.now c.args.figures.now c.args.net c.args.money c.requires c.write_leading-end.ensures) (44 ∷ signed_figure (to_z w64 (of_z w64 c.args.net))) (from_money c.args.money) (net_as c.args.money (to_z-of_z c.ranges.net))).fits
+pub write_field-end-requires : goal.write_field-end-requires
+write_field-end-requires c = (left-room (at-net c.args.plant.now c.args.figures.now c.args.net c.args.money c.requires c.write_leading-end.ensures) (44 ∷ signed_figure (to_z w64 (of_z w64 c.args.net))) (from_money c.args.money) (net_as c.args.money (to_z-of_z c.ranges.net))).fits
 
-pub write_signed_field-end-requires-2 : goal.write_signed_field-end-requires-2
-unfolding signed_figure_length
-write_signed_field-end-requires-2 c =
-    (left-room (at-money c.args.plant.now c.args.figures.now c.args.net c.args.money c.requires c.write_leading-end.ensures (to_z-of_z c.ranges.net) c.write_signed_field-end.ensures) (44 ∷ signed_figure (to_z w64 (of_z w64 c.args.money))) (10 ∷ []) (money-as (to_z-of_z c.ranges.money))).fits
+pub write_field-end-requires-2 : goal.write_field-end-requires-2
+write_field-end-requires-2 c =
+    (left-room (at-money c.args.plant.now c.args.figures.now c.args.net c.args.money c.requires c.write_leading-end.ensures (to_z-of_z c.ranges.net) c.write_field-end.ensures) (44 ∷ signed_figure (to_z w64 (of_z w64 c.args.money))) (10 ∷ []) (money-as (to_z-of_z c.ranges.money))).fits
 
 pub write_byte-requires : goal.write_byte-requires
 write_byte-requires c =
-    omega (arith, (left-fits (at_end c.args.plant.now c.args.figures.now c.args.net c.args.money c.requires c.write_leading-end.ensures (to_z-of_z c.ranges.net) c.write_signed_field-end.ensures (to_z-of_z c.ranges.money) c.write_signed_field-end-2.ensures) refl).fits)
+    omega (arith, (left-fits (at_end c.args.plant.now c.args.figures.now c.args.net c.args.money c.requires c.write_leading-end.ensures (to_z-of_z c.ranges.net) c.write_field-end.ensures (to_z-of_z c.ranges.money) c.write_field-end-2.ensures) refl).fits)
 
 pub returns : goal.returns
 returns c =
-    left-last (at_end c.args.plant.now c.args.figures.now c.args.net c.args.money c.requires c.write_leading-end.ensures (to_z-of_z c.ranges.net) c.write_signed_field-end.ensures (to_z-of_z c.ranges.money) c.write_signed_field-end-2.ensures) refl c.write_byte.ensures
+    left-last (at_end c.args.plant.now c.args.figures.now c.args.net c.args.money c.requires c.write_leading-end.ensures (to_z-of_z c.ranges.net) c.write_field-end.ensures (to_z-of_z c.ranges.money) c.write_field-end-2.ensures) refl c.write_byte.ensures

@@ -8,7 +8,7 @@ use Rattle.lists.specs.Lists.{sum}
 use Rattle.lists.specs.Columns.{four}
 use Rattle.figures.specs.Figures.{Wrote}
 use Rattle.plants.specs.declared.Plant.{Plant}
-use Rattle.ledger.specs.Ledger.{Ledger, allotted_in}
+use Rattle.ledger.specs.Ledger.{Ledger, allotted_in, viewed}
 use Rattle.statement.specs.Statement.{plant_lines, total_line, statement_text}
 use Rattle.statement.specs.Lengths.{statement_length}
 use Rattle.statement.proofs.Text.{length-statement}
@@ -36,17 +36,17 @@ pub column_sums-columns-requires : goal.column_sums-columns-requires
 column_sums-columns-requires c = sums-asked c.requires.stateable
 
 pub write_plant_lines-end-requires-clause-room : goal.write_plant_lines-end-requires-clause-room
-write_plant_lines-end-requires-clause-room c = left-room (at-start _ _ (record { allotted = c.args.allotted.now; accounts = c.args.accounts.now }) c.requires.room) _ _ refl
+write_plant_lines-end-requires-clause-room c = left-room (at-start _ _ (viewed c.args.ledger) c.requires.room) _ _ refl
 
 pub write_total_line-requires-clause-columns_bound : goal.write_total_line-requires-clause-columns_bound
 write_total_line-requires-clause-columns_bound c = sums_fit c.requires.stateable c.column_sums-columns.ensures
 
 pub write_total_line-requires-clause-room : goal.write_total_line-requires-clause-room
 write_total_line-requires-clause-room c =
-    let l : Ledger = record { allotted = c.args.allotted.now; accounts = c.args.accounts.now } in
+    let l = viewed c.args.ledger in
     left-fits (at-total c.args.settled c.args.plants.now l c.requires.room c.write_plant_lines-end.ensures) (total-is c.args.settled c.args.plants.now l c.column_sums-columns.ensures)
 
 pub returns : goal.returns
 returns c =
-    let l : Ledger = record { allotted = c.args.allotted.now; accounts = c.args.accounts.now } in
+    let l = viewed c.args.ledger in
     fills (left-last (at-total c.args.settled c.args.plants.now l c.requires.room c.write_plant_lines-end.ensures) (total-is c.args.settled c.args.plants.now l c.column_sums-columns.ensures) c.write_total_line.ensures)

@@ -4,7 +4,7 @@ use mathlib.Core.List.{List, [], ◌∷◌, ◌++◌}
 use Prim.Native.Nat.{ℕ, ◌<◌, ◌^◌, min}
 use native.Mathlib.Omega.{arith}
 use Rattle.lists.specs.Lists.{sum}
-use Rattle.figures.specs.Figures.{figure, figure_length, Wrote}
+use Rattle.figures.specs.Figures.{figure, Wrote}
 use Rattle.statement.specs.Statement.{total_line}
 use Rattle.statement.specs.Writing.{leading, Room}
 use Rattle.statement.proofs.Text.{total-line_is}
@@ -34,7 +34,6 @@ pub write_leading-end-requires : goal.write_leading-end-requires
 write_leading-end-requires c = left-room (at-start c.args.settled c.args.plants c.args.columns.now c.requires.room) _ _ refl
 
 pub write_field-end-requires : goal.write_field-end-requires
-unfolding figure_length
 write_field-end-requires c =
     (left-room (at-total c.args.settled c.args.plants c.args.columns.now c.requires.room c.write_leading-end.ensures) (44 ∷ figure c.sum_of-total.result) _ (total-is c.args.columns.now c.sum_of-total.ensures c.requires.columns_bound)).fits
 

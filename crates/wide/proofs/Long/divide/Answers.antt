@@ -30,7 +30,7 @@ known-back : (c : After-lacking-over) → let a = c.args in let g = a.n.high / c
 known-back c = back _ _ _ _ _ c.lacking-over.result (known c.before).whole c.lacking-over.ensures.1 c.lacking-over.ensures.2
 
 pub lacking-over-requires : goal.lacking-over-requires
-lacking-over-requires c = let k = known c in (k.below, k.little, c.args.self.headed.bound)
+lacking-over-requires c = let k = known c in (k.below, k.little)
 
 pub overflow_sub-result : goal.overflow_sub-result
 overflow_sub-result c = (known-back c).within

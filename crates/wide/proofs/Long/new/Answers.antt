@@ -29,4 +29,4 @@ pub overflow_sub-result : goal.overflow_sub-result
 overflow_sub-result c = omega (arith, (at c).0)
 
 pub invariant_of-result : goal.invariant_of-result
-invariant_of-result c = record { headed = (at c).1 }
+invariant_of-result c = record { positive = omega arith; headed = (at c).1 }

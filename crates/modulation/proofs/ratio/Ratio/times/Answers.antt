@@ -17,7 +17,7 @@ overflow_add-behind c =
     let a = mul-le-mul u low in let b = mul-le-mul v middle in
     omega arith
 
-pub returns-then-behind-upper-lt4398046511104 : goal.returns-then-behind-upper-lt4398046511104
-returns-then-behind-upper-lt4398046511104 c = let t = c.args.t in let r = c.args.self in
+pub returns-then-behind-upper : goal.returns-then-behind-upper
+returns-then-behind-upper c = let t = c.args.t in let r = c.args.self in
     sym (ap (λ (x : ℕ). x * r.part / r.whole) (sym (div-add-mod' t 1048576))
-    ∙ by_digits r.part r.whole (t / 1048576) (t % 1048576) r.high r.low r.middle (t / 1048576 * r.low + t % 1048576 * r.middle) r.some r.first r.next r.both refl c.if-behind-upper-lt4398046511104.true)
+    ∙ by_digits r.part r.whole (t / 1048576) (t % 1048576) r.high r.low r.middle (t / 1048576 * r.low + t % 1048576 * r.middle) r.some r.first r.next r.both refl c.if-behind-upper.true)

@@ -37,7 +37,8 @@ FACT = re.compile(
 # Two types that differ are both facts, or nothing is shown: where one is that of a value, or a goal by its name, the proof file no longer
 # fits the code.
 NO_FACT = re.compile(
-    r"(expected|has) type `\(*([^` ]*\.)?(ℕ|ℤ|Bool|List|Option|Result|RefT|Array|Type|Month|Settled|Balanced|Ended|Stated|Sized|Worked|Balance|Refusal|MonthFile|FileStage|Plant|Blocks|ReadLine|Start|Table)[ `]"
+    r"(expected|has) type `\(*([^` ]*\.)?(ℕ|ℤ|Bool|List|Option|Result|RefT|Array|Type|Month|Settled|Balanced|Ended|Stated|Sized|Worked|Balance|Refusal|MonthFile|FileStage|Plant|Blocks|ReadLine|Start|Table"
+    r"|Weights|Rows|LentFile|FileView|LedgerView|HourView|Long|Short|Modulation|Kept|KeptLists)[ `]"
     r"|(expected|has) type `\(*(goal|[^` ]*\.Goals)\.(?!the-)"
 )
 NO_NAME = re.compile(r"that can be named from here|has no field|is not in scope(?! here, so what is shown)|no module is found")

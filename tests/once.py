@@ -7,7 +7,7 @@ states what another states but for the names of its variables, a law that only h
 And no function's proof walks the code by hand. The last line is 'N passed, M failed'.
 
 Names are looked up as words: a lemma that has the name of a local variable of its file passes, and so does a function that has the name of a
-method which any crate calls. Whether fields, constructors, structs and constants are used is not held, nor copies of code or proofs with other
+method which any crate calls. `.into()` and `from` use each `From` whose two types are at hand there: the function names them, or has them by a field or a call. Whether fields, constructors, structs and constants are used is not held, nor copies of code or proofs with other
 names in them. Laws are compared with the modules around them as they are written: one that is an instance of another passes. A law only hands
 on another where its one clause is that law, of the same conclusion, with words and fields as arguments, and where it is `pub` and no argument
 is a law of its file, or is cited there once, or where two hand on the same law. Files of functions' proofs are not looked at for it, nor a law
@@ -234,10 +234,12 @@ def functions():
         uses = re.findall(r"^(?:pub )?use (\w+)::(?:\w+::)*(?:(\w+)|{([^}]*)});", path.read_text(), re.M)
         used = {name: of for of, one, many in uses for name in ([one] if one else re.findall(r"\w+", many))}
         for name, exported, line, lines in functions_of(path):
-            one = (crate, name)
+            one = (crate, made(path, line) if name == "from" else name)
             at.setdefault(one, place(path, line))
-            calls.setdefault(one, set()).update(called(re.sub("//.*", "", "\n".join(lines[1:-1])), crate, used))
-            if exported or name == "main" or one in PUBLIC:
+            calls.setdefault(one, set()).update(called(re.sub("//.*", "", "\n".join(lines)), crate, used))
+            # a type that is copied has a `clone`, which nothing need call
+            copied = name == "clone" and re.search(r"^impl(?:<[^>]*>)? Copy for ", path.read_text(), re.M)
+            if exported or name == "main" or one in PUBLIC or copied:
                 roots.add(one)
     seen = reached(roots, lambda one: (other for other in calls[one] if other in calls))
     for one, where in at.items():
@@ -248,12 +250,41 @@ def functions():
         yield one not in others, f"{one[1]} of {one[0]} is called, so this script need not list it"
 
 
-def called(body, crate, used):
-    """A path begins with a crate, or with what this crate has or takes by `use`; a method may be any crate's, and `.into()` calls a `from`."""
-    for before, path, name in re.findall(r"(\.)?((?:\w+::)*)(\w+)\(", body):
+def made(path, line):
+    """The `From<A> for B` of a `from` at a line: there are many of that name."""
+    return next(found[1] for text in reversed(path.read_text().splitlines()[:line]) if (found := re.match(r"impl(?:<[^>]*>)? (From<.* for \w+)", text)))
+
+
+@functools.cache
+def types():
+    """Of each type that a crate declares the words of its fields; of each function those of its parameters and its answer; and each `From`."""
+    fields, signatures, conversions = collections.defaultdict(set), collections.defaultdict(set), []
+    for path in sorted(CRATES.glob("*/src/**/*.rt")):
+        text = re.sub("//.*", "", path.read_text())
+        for name, inside in re.findall(r"^(?:pub )?(?:struct|enum) (\w+)[^{;]*{(.*?)^}", text, re.M | re.S):
+            fields[name].update(re.findall(r"\w+", inside))
+        for function in functions_of(path):
+            signatures[function.name].update(re.findall(r"\w+", re.split(r"\b(?:requires|ensures)\b|{", "\n".join(function.lines))[0]))
+        conversions += [(crate_of(path), found) for found in re.findall(r"^impl(?:<[^>]*>)? (From<.* for \w+)", text, re.M)]
+    return fields, signatures, conversions
+
+
+def converted(text):
+    """Each `From` of which a function may have both types at hand: it names them, or a type with such a field, or calls what takes or answers them."""
+    fields, signatures, conversions = types()
+    words = set(re.findall(r"\w+", text))
+    words = words.union(*(fields[word] for word in words & fields.keys()), *(signatures[word] for word in words & signatures.keys() - {"from", "into"}))
+    return [(crate, one) for crate, one in conversions if fields.keys() & set(re.findall(r"\w+", one)) <= words]
+
+
+def called(text, crate, used):
+    """A path begins with a crate, or with what this crate has or takes by `use`; a method may be any crate's, but for `.into()` and `from`."""
+    for before, path, name in re.findall(r"(\.)?((?:\w+::)*)(\w+)\(", text.partition("\n")[2]):
         first = path.split("::")[0] or name
-        if before:
-            yield from ((folder.name, "from" if name == "into" else name) for folder in CRATES.iterdir())
+        if name == ("into" if before else "from"):
+            yield from ((home, one) for home, one in converted(text) if before or f"::{path}".endswith(f"::{one.split()[-1]}::"))
+        elif before:
+            yield from ((folder.name, name) for folder in CRATES.iterdir())
         elif path and (CRATES / first).is_dir():
             yield (first, name)
         else:

@@ -1,8 +1,9 @@
 // Feed and finish for any caller: what they need is decided at run time.
 #![tactic(auto)]
 
-ghost use Rattle.std.specs.Prelude.{◌≡◌};
+ghost use Rattle.std.specs.Prelude.{◌≡◌, ◌≤◌, length, take};
 ghost use Rattle.refusals.specs.Numbers.{number};
+ghost use Rattle.questions.specs.Questions.{rows_number};
 ghost use Rattle.file_lines.specs.State.{kept, Lent, Gathering, Counted, Settling, Valid};
 ghost use Rattle.file_lines.specs.Lists.{viewed_lists};
 ghost use Rattle.month_file.specs.Run.{place};
@@ -18,14 +19,15 @@ use month::{Month, Stage};
 use month_file::feeding::feed;
 use month_file::finishing::finish;
 use plants::Plant;
-use questions::{ask_rows, periods_in_limits};
+use questions::{ask_row, periods_in_limits};
+use records::tables::PlantTable;
 use refusals::{Refusal, ask, told};
 
 // Are the lists of what was read long enough for every month?
-fn are_lent(lists: FileView<'_>) -> bool
-    ensures { Decides (Lent (viewed_lists lists.entry)) result }
+fn are_lent<T: PlantTable>(lists: FileView<'_, T>) -> bool
+    ensures { Decides (Lent (viewed_lists T.rows lists.entry)) result }
 {
-    PLANTS <= lists.plants.len()
+    PLANTS <= lists.plants.count()
         && PERIODS <= lists.profile.len()
         && ALLOTTED * PLANTS <= lists.allotted.len()
         && ACCOUNTS * PLANTS <= lists.accounts.len()
@@ -33,8 +35,8 @@ fn are_lent(lists: FileView<'_>) -> bool
 
 // ... and the list of the line that has begun? State, line and lists are no struct: C lends them apart, and `finish` reads the lists with the state after
 // the line.
-fn is_room(file: MonthFile, line: &[u8], lists: FileView<'_>) -> bool
-    ensures { Decides (FileRoom (place file (viewed_lists lists.entry) line.now)) result }
+fn is_room<T: PlantTable>(file: MonthFile, line: &[u8], lists: FileView<'_, T>) -> bool
+    ensures { Decides (FileRoom (place file (viewed_lists T.rows lists.entry) line.now)) result }
 {
     LONGEST <= line.len() && are_lent(lists)
 }
@@ -62,22 +64,36 @@ fn is_counted(month: Month, count: u64) -> bool
         && count == month.plants + month.periods + month.due
 }
 
+// 5 to 8 of the first rows of a table, read one by one.
+fn ask_table<T: PlantTable>(plants: &T, rows: usize) -> Result<(), Refusal>
+    requires { rows ≤ length (T.rows plants.now) }
+    ensures { number result ≡ rows_number 0 0 (take rows (T.rows plants.now)) }
+{
+    let mut before = Plant::default();
+    for i in 0..rows {
+        let plant = plants.row(i);
+        ask_row(before, plant)?;
+        before = plant;
+    }
+    Ok(())
+}
+
 // ... 5 to 8 passed by the table, and the ledger in its bounds?
-fn is_settling(file: MonthFile, lists: FileView<'_>) -> bool
-    requires { Lent (viewed_lists lists) }
-    ensures { Decides (Settling file (viewed_lists lists.entry)) result }
+fn is_settling<T: PlantTable>(file: MonthFile, lists: FileView<'_, T>) -> bool
+    requires { Lent (viewed_lists T.rows lists) }
+    ensures { Decides (Settling file (viewed_lists T.rows lists.entry)) result }
 {
     let month = file.month;
     let rows = month.plants as usize;
     is_counted(month, file.count)
-        && ask_rows(&lists.plants[..rows]).is_ok()
+        && ask_table(lists.plants, rows).is_ok()
         && lists.ledger_of(rows).in_bounds()
 }
 
 // Do state and lists fit together, as after `fresh` and every feed?
-fn is_valid(file: MonthFile, lists: FileView<'_>) -> bool
-    requires { Lent (viewed_lists lists) }
-    ensures { Decides (Valid file (viewed_lists lists.entry)) result }
+fn is_valid<T: PlantTable>(file: MonthFile, lists: FileView<'_, T>) -> bool
+    requires { Lent (viewed_lists T.rows lists) }
+    ensures { Decides (Valid file (viewed_lists T.rows lists.entry)) result }
 {
     if LONGEST < file.length {
         return false;
@@ -91,8 +107,12 @@ fn is_valid(file: MonthFile, lists: FileView<'_>) -> bool
 }
 
 // 30 and 31 of a feed.
-fn ask_file(file: MonthFile, line: &[u8], lists: FileView<'_>) -> Result<(), Refusal>
-    ensures { FileNumber (place file (viewed_lists lists.entry) line.now) (number result) }
+fn ask_file<T: PlantTable>(
+    file: MonthFile,
+    line: &[u8],
+    lists: FileView<'_, T>,
+) -> Result<(), Refusal>
+    ensures { FileNumber (place file (viewed_lists T.rows lists.entry) line.now) (number result) }
 {
     ask(is_room(file, line, lists), Refusal::ListLength)?;
     ask(is_valid(file, lists), Refusal::OutOfTurn)
@@ -100,16 +120,16 @@ fn ask_file(file: MonthFile, line: &[u8], lists: FileView<'_>) -> Result<(), Ref
 
 // One part of the file, with a state and lists that may hold anything. Refused, the state is left as it was. The lists come apart, as C lends them: they
 // are a file's once they are asked.
-pub fn feed_any(
+pub fn feed_any<T: PlantTable>(
     file: &mut MonthFile,
     part: &[u8],
     line: &mut [u8],
-    plants: &mut [Plant],
+    plants: &mut T,
     profile: &mut [u64],
     allotted: &mut [u64],
     accounts: &mut [i64],
 ) -> Result<(), Refusal>
-    ensures { FedAny (place file.old (kept plants.old profile.old allotted.old accounts.old) line.old) part.now (number result) (place file.new (kept plants.new profile.new allotted.new accounts.new) line.new) }
+    ensures { FedAny (place file.old (kept (T.rows plants.old) profile.old allotted.old accounts.old) line.old) part.now (number result) (place file.new (kept (T.rows plants.new) profile.new allotted.new accounts.new) line.new) }
 {
     let lists = FileView {
         plants,
@@ -131,8 +151,13 @@ pub fn feed_any(
 }
 
 // 30, 22 and 31 of a finish.
-fn ask_finish(file: MonthFile, line: &[u8], lists: FileView<'_>, text: &[u8]) -> Result<(), Refusal>
-    ensures { FinishNumber (place file (viewed_lists lists.entry) line.now) text.now (number result) }
+fn ask_finish<T: PlantTable>(
+    file: MonthFile,
+    line: &[u8],
+    lists: FileView<'_, T>,
+    text: &[u8],
+) -> Result<(), Refusal>
+    ensures { FinishNumber (place file (viewed_lists T.rows lists.entry) line.now) text.now (number result) }
 {
     ask(is_room(file, line, lists), Refusal::ListLength)?;
     ask(
@@ -164,13 +189,13 @@ impl From<Result<usize, Refusal>> for FinishAnswer {
 }
 
 // The input has ended, with a state and lists that may hold anything. Answers how many bytes were written.
-pub fn finish_any(
+pub fn finish_any<T: PlantTable>(
     file: MonthFile,
     line: &[u8],
-    lists: FileView<'_>,
+    lists: FileView<'_, T>,
     text: &mut [u8],
 ) -> Result<usize, Refusal>
-    ensures { FinishedAny (place file (viewed_lists lists.entry) line.now) text.old (finish_answer result) text.new }
+    ensures { FinishedAny (place file (viewed_lists T.rows lists.entry) line.now) text.old (finish_answer result) text.new }
 {
     ask_finish(file, line, lists, text)?;
     Ok(finish(file, line, lists, text))

@@ -38,10 +38,10 @@ abbrev pub with_ledger : Kept → ℕ → List ℕ → List ℤ → Kept
 with_ledger k p ys zs =
     kept k.plants k.profile (ys ++ drop (4 * p) k.allotted) (zs ++ drop (2 * p) k.accounts)
 
--- ... and the other lists put together from the front that was lent and the rest
+-- ... and the profile put together from the front that was lent and the rest
 abbrev pub put_back : Kept → ℕ → ℕ → List ℕ → List ℤ → Kept
 put_back k p n ys zs =
-    kept (take p k.plants ++ drop p k.plants) (take n k.profile ++ drop n k.profile) (ys ++ drop (4 * p) k.allotted) (zs ++ drop (2 * p) k.accounts)
+    kept k.plants (take n k.profile ++ drop n k.profile) (ys ++ drop (4 * p) k.allotted) (zs ++ drop (2 * p) k.accounts)
 
 -- the ledger of n plants has four figures and two accounts for each
 pub ledger-long : (k : Kept) → Lent k → (n : ℕ) → n ≤ 512 → Lengths n (ledger_of n k)
@@ -173,4 +173,4 @@ pub opening_answered : {f : MonthFile} {k : Kept} → Openable f k → {m : Mont
     → {r : MonthFile} → r ≡ at_call f end.number end.month → Moved f (opened_of f k) r (put_back k f.plants f.periods ys zs)
 unfolding ledger_of
 opening_answered {f} {k} o b e many more q =
-    rw (take-append-drop f.plants k.plants, take-append-drop f.periods k.profile) (opening_called _ _ o _ _ _ (rw (sym b) e) many more q)
+    rw (take-append-drop f.periods k.profile) (opening_called _ _ o _ _ _ (rw (sym b) e) many more q)

@@ -2,7 +2,7 @@
 use mathlib.Core.Path.{◌≡◌, refl, sym, ap, ap₂, ◌∙◌}
 use mathlib.Core.Bool.{true}
 use mathlib.Core.List.{List}
-use Prim.Native.Nat.{ℕ, ◌+◌, ◌*◌}
+use Prim.Native.Nat.{ℕ, ◌+◌, ◌*◌, ◌≤◌}
 use native.Mathlib.Omega.{arith}
 use lib.IntN.{ℤ}
 use lib.ListN.{length, take, replicate, length-replicate, take-append-drop}
@@ -149,6 +149,10 @@ answer_month (Ok w) m = refl
 answer_month (Err n) m = refl
 
 -- what settle answers and leaves of the period due
+-- a month's plants have room
+pub few_enough : {f : MonthFile} {k : Kept} → f.stage ≡ Metering → Valid f k → f.month.plants ≤ 512
+few_enough s v = (v.settling s).counted.plants
+
 pub settling_answered : {f : MonthFile} {k : Kept} → f.stage ≡ Metering → Valid f k → (metered : List ℕ) (r : Result Worked Refusal) (m : Month) {ds ys : List ℕ} {zs : List ℤ}
     → ◌≡◌ {A = SettleEnd} (record { answer = answer.settled r m; allotment = ds; ledger = record { allotted = ys; accounts = zs } })
     (settle_call f.month (take f.month.plants k.plants) (take f.month.periods k.profile) metered (take (4 * f.month.plants) (replicate 2048 0))
@@ -157,7 +161,7 @@ pub settling_answered : {f : MonthFile} {k : Kept} → f.stage ≡ Metering → 
     → {g : MonthFile} → g ≡ at_call f (number r) m → Moved f (settled_of f k metered) g (put_back k f.month.plants f.month.periods ys zs)
 unfolding ledger_of
 settling_answered {f} {k} s v metered r m e many more q =
-    rw (take-append-drop f.month.plants k.plants, take-append-drop f.month.periods k.profile)
+    rw (take-append-drop f.month.periods k.profile)
     (settling_called _ _ s v _ _ _ _ _ _
     (length-take-le _ (replicate 2048 0) (omega (arith, (v.settling s).counted.plants, length-replicate {A = ℕ} 2048 0))) e many more
     (q ∙ sym (ap₂ (λ (n : ℕ) (a : Month). at_call f n a) (answer_number r m) (answer_month r m))))

@@ -9,6 +9,7 @@ use crate::lent::LentFile;
 use crate::opening::open_month;
 use crate::{FileStage, MonthFile};
 use plants::Plant;
+use records::tables::PlantTable;
 
 // The plant of a P line's figures. No `From`: that a list has five figures no type says.
 #[tactic(auto, unfolding(crate::specs::File::plant_of))]
@@ -26,15 +27,15 @@ fn plant_of(figures: &[u64]) -> Plant
 }
 
 // A P line is a row more, an H line a profile figure more.
-pub fn gather(file: &mut LentFile<'_, '_, '_, '_>, figures: &[u64])
+pub fn gather<T: PlantTable>(file: &mut LentFile<'_, '_, '_, '_, T>, figures: &[u64])
     requires { (file.old.state.stage ≡ stage.Gathering) × (2 ≤ length figures.now) × (file.old.state.rows < file.old.state.plants → 5 ≤ length figures.now) }
-    ensures moved { Moved file.old.state (taken (file.old.state.count + 1) (progress_of file.old.state (lent_lists file.old)) figures.now) file.new.state (lent_lists file.new) }
+    ensures moved { Moved file.old.state (taken (file.old.state.count + 1) (progress_of file.old.state (lent_lists T.rows file.old)) figures.now) file.new.state (lent_lists T.rows file.new) }
     ensures same { SameLists file.old file.new }
 {
     let state = file.state;
     let row = state.rows;
     if (row as u64) < state.plants {
-        file.plants[row] = plant_of(figures);
+        file.plants.put(row, plant_of(figures));
         file.state = MonthFile {
             rows: row + 1,
             ..state.at_stage(FileStage::Gathering)

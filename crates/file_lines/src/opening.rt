@@ -5,12 +5,15 @@ ghost use Rattle.file_lines.specs.Lists.{lent_lists, SameLists};
 
 use crate::lent::LentFile;
 use ledger::{ACCOUNTS, ALLOTTED};
+use lists::PLANTS;
 use month::Month;
+use plants::Plant;
+use records::tables::PlantTable;
 
 // Opens the month of the rows and the profile that are kept.
-pub fn open_month(file: &mut LentFile<'_, '_, '_, '_>)
-    requires { Openable file.old.state (lent_lists file.old) }
-    ensures moved { Moved file.old.state (opened_of file.old.state (lent_lists file.old)) file.new.state (lent_lists file.new) }
+pub fn open_month<T: PlantTable>(file: &mut LentFile<'_, '_, '_, '_, T>)
+    requires { Openable file.old.state (lent_lists T.rows file.old) }
+    ensures moved { Moved file.old.state (opened_of file.old.state (lent_lists T.rows file.old)) file.new.state (lent_lists T.rows file.new) }
     ensures same { SameLists file.old file.new }
     ensures read { (file.new.plants.now ≡ file.old.plants.now) × (file.new.profile.now ≡ file.old.profile.now) }
 {
@@ -20,8 +23,10 @@ pub fn open_month(file: &mut LentFile<'_, '_, '_, '_>)
     let fours = ALLOTTED * rows;
     let twos = ACCOUNTS * rows;
     let mut month = Month::default();
+    // no heap: room for the most plants
+    let mut room = [Plant::default(); PLANTS];
     // all four are lent `&mut`: to read one list of the file while another is lent is not covered yet
-    let plants = &mut file.plants[..rows];
+    let plants = file.plants.front(rows, &mut room);
     let profile = &mut file.profile[..figures];
     let allotted = &mut file.allotted[..fours];
     let accounts = &mut file.accounts[..twos];

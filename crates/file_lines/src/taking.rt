@@ -13,12 +13,13 @@ use crate::settling::settle_line;
 use crate::turns::in_turn;
 use lines::fields::FIELDS;
 use lines::reading::read_line;
+use records::tables::PlantTable;
 use refusals::Refusal;
 
 // The figures of a line in turn: sizes, a row or a profile figure, or the metered figures of the period due.
-pub fn take_figures(file: &mut LentFile<'_, '_, '_, '_>, figures: &[u64])
+pub fn take_figures<T: PlantTable>(file: &mut LentFile<'_, '_, '_, '_, T>, figures: &[u64])
     requires { Figured file.old.state figures.now }
-    ensures moved { Moved file.old.state (taken (file.old.state.count + 1) (progress_of file.old.state (lent_lists file.old)) figures.now) file.new.state (lent_lists file.new) }
+    ensures moved { Moved file.old.state (taken (file.old.state.count + 1) (progress_of file.old.state (lent_lists T.rows file.old)) figures.now) file.new.state (lent_lists T.rows file.new) }
     ensures same { SameLists file.old file.new }
 {
     match file.state.stage {
@@ -30,9 +31,9 @@ pub fn take_figures(file: &mut LentFile<'_, '_, '_, '_>, figures: &[u64])
 }
 
 // A line with its byte 10: 26 to 30 first, then 31, then the other questions.
-pub fn take_line(file: &mut LentFile<'_, '_, '_, '_>, line: &[u8])
+pub fn take_line<T: PlantTable>(file: &mut LentFile<'_, '_, '_, '_, T>, line: &[u8])
     requires { file.old.state.stage ≢ stage.Refused }
-    ensures moved { Moved file.old.state (read (file.old.state.count + 1) (progress_of file.old.state (lent_lists file.old)) (whole line.now)) file.new.state (lent_lists file.new) }
+    ensures moved { Moved file.old.state (read (file.old.state.count + 1) (progress_of file.old.state (lent_lists T.rows file.old)) (whole line.now)) file.new.state (lent_lists T.rows file.new) }
     ensures same { SameLists file.old file.new }
 {
     let mut figures = [0u64; FIELDS];

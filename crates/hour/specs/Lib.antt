@@ -1,4 +1,3 @@
 -- Document 01, 'One hour', as definitions.
 pub mod Hour
-pub mod Table
 pub mod Work

@@ -11,7 +11,7 @@ use file_calls::{FinishAnswer, feed_any, finish_any};
 use file_lines::lent::FileView;
 use file_lines::{FileStage, MonthFile};
 use kept_month::KeptMonth;
-use records::{COLUMNS, plants_of, put_plants};
+use records::COLUMNS;
 use refusals::Refusal;
 
 // How far a month file has come, as the caller keeps it: C may set a stage or a refusal to any number.
@@ -125,27 +125,15 @@ pub fn feed_kept(
 ) -> KeptFed
     ensures { FileFed file (kept_lists columns.old profile.old allotted.old accounts.old) line.old part.now result (kept_lists columns.new profile.new allotted.new accounts.new) line.new }
 {
-    if columns.len() < COLUMNS {
+    let Some(table) = columns.first_chunk_mut::<COLUMNS>() else {
         return refused(file, Refusal::ListLength);
-    }
-    let mut plants = plants_of(columns);
+    };
     let mut meant = MonthFile::from(file);
-    match feed_any(
-        &mut meant,
-        part,
-        line,
-        &mut plants,
-        profile,
-        allotted,
-        accounts,
-    ) {
-        Ok(()) => {
-            put_plants(columns, &plants);
-            KeptFed {
-                number: 0,
-                file: taken(file, meant),
-            }
-        }
+    match feed_any(&mut meant, part, line, table, profile, allotted, accounts) {
+        Ok(()) => KeptFed {
+            number: 0,
+            file: taken(file, meant),
+        },
         Err(refusal) => refused(file, refusal),
     }
 }
@@ -162,11 +150,11 @@ pub fn finish_kept(
 ) -> FinishAnswer
     ensures { FileFinished file (kept_lists columns.now profile.now allotted.now accounts.now) line.now text.old result text.new }
 {
-    if columns.len() < COLUMNS {
+    let Some(table) = columns.first_chunk::<COLUMNS>() else {
         return FinishAnswer::from(Err(Refusal::ListLength));
-    }
+    };
     let lists = FileView {
-        plants: &plants_of(columns),
+        plants: table,
         profile,
         allotted,
         accounts,

@@ -3,4 +3,3 @@ pub mod Bounds
 pub mod Lists
 pub mod Posting
 pub mod Sums
-pub mod Strides

@@ -1,13 +1,9 @@
 -- What loops over the ledger's lists leave. Assumes nothing.
 use mathlib.Core.Path.{◌≡◌, refl, sym, ap, ◌∙◌, subst, subst₂}
-use mathlib.Core.Bool.{Bool, ◌&&◌}
-use mathlib.Core.List.{List, [], ◌∷◌}
+use mathlib.Core.List.{List}
 use Prim.Native.Nat.{ℕ, ◌+◌, ◌≤◌, ◌<◌}
 use native.Mathlib.Omega.{arith}
 use lib.ListN.{length, get_or, set}
-use Rattle.std.specs.List.{list_all, sum_by}
-use Rattle.std.proofs.lemmas.List.Recursion.{is_sum_by}
-use Rattle.lists.specs.Lists.{every, sum}
 use Rattle.lists.specs.Columns.{rowwise}
 use Rattle.lists.proofs.Columns.{rowwise-table}
 use Rattle.lists.proofs.Loops.{Updating, updating_more}
@@ -27,13 +23,3 @@ module _ {A : Type 0} (f : A → A → A) (d : A) where
 
   pub joined_all : (more : List A) {i : ℕ} {out₀ out : List A} → Joining more i out₀ out → length out₀ ≤ i → length out₀ ≡ length more → out ≡ rowwise f d d out₀ more
   joined_all more {out₀ = out₀} k h e = written_all _ k.now h refl ∙ sym (rowwise-table f d d (length out₀) out₀ more refl (sym e))
-
--- std's words for a test of every figure, and for a sum
-pub list_all-every : {A : Type 0} (p : A → Bool) (xs : List A) → list_all p xs ≡ every p xs
-unfolding every
-list_all-every p [] = refl
-list_all-every p (x ∷ xs) = ap (λ (b : Bool). p x && b) (list_all-every p xs)
-
-pub sum_is : (xs : List ℕ) → sum xs ≡ sum_by (λ x. x) xs
-unfolding sum
-sum_is = is_sum_by sum (λ x. x) refl (λ x xs. refl)

@@ -1,8 +1,10 @@
 -- Laws of commas and fields. Assumes nothing.
 use mathlib.Core.Path.{◌≡◌, refl, sym, ap, subst, ◌∙◌}
+use mathlib.Core.Logic.{by_cases}
 use mathlib.Core.Bool.{Bool, true, false, cond}
 use mathlib.Core.List.{List, [], ◌∷◌}
 use Prim.Native.Nat.{ℕ, zero, suc, ◌+◌, ◌-◌, ◌≤◌, ◌<◌, zero-le}
+use native.Mathlib.Decide.{dec_lt}
 use native.Mathlib.Omega.{arith}
 use borrow.Author.Tests.{eq-eqb, ne_eqb, eqb-true, eqb-false, lt-ltb, le-ltb}
 use lib.Dec.{eqb, ltb}
@@ -155,6 +157,31 @@ module _ {l : List ℕ} {index r : ℕ} (s : Starts l index r) where
 
   pub field_there : get_or (fields l) index [] ≡ first_field (drop r l)
   field_there = sym (at_drop (fields l) index []) ∙ ap (λ (fs : List (List ℕ)). get_or fs 0 []) whole
+
+-- ---- a loop that reads fields
+
+pub starts_first : {l : List ℕ} → Starts l 0 0
+starts_first = record { inside = zero-le; there = refl }
+
+-- behind the field there starts the next one, if there is one
+module _ {l : List ℕ} {i at : ℕ} (s : Starts l i at) {f : List ℕ} (e : f ≡ first_field (drop at l)) where
+  ends : at + length f ≡ next_comma l at
+  ends = ap (λ (f : List ℕ). at + length f) e ∙ field_long l at s.inside
+
+  pub field_inside : at + length f ≤ length l
+  field_inside = omega (arith, ends, next-high l at s.inside)
+
+  pub starts_more : i + 1 < length (fields l) → Starts l (i + 1) (at + (length f + 1))
+  starts_more h =
+      let last : length l ≤ next_comma l at → ⊥ = λ k. omega (arith, length-drop i (fields l), ap length (s.there ∙ fields-last l at s.inside k)) in
+      let comma : next_comma l at < length l = by_cases (dec_lt (next_comma l at) (length l)) (λ k. k) (λ k. absurd (last (omega arith))) in
+      let behind : next_comma l at + 1 ≡ at + (length f + 1) = omega (arith, ends) in
+      record {
+        inside = omega (arith, ends);
+        there =
+            sym (drop-drop 1 i (fields l)) ∙ ap (drop 1) (s.there ∙ fields-more l at s.inside comma)
+            ∙ ap (λ (n : ℕ). fields (drop n l)) behind;
+      }
 
 -- question 28 by what stands for the field's start
 pub field_asked : (l : List ℕ) (index : ℕ) (o : Option ℕ) → MatchOption o (length (fields l) ≤ index) (Starts l index)

@@ -11,12 +11,9 @@ use lib.Dec.{leb, ltb}
 use lib.ListN.{length, take, drop, get_or, set, length-set, length-drop, drop_of_length-le}
 use lib.Seq.{take-suc-set, take-suc, take_all}
 use Rattle.std.specs.Prelude.{Option, Some, None, Ok}
-use Rattle.std.specs.Iterator.{Yields}
-use Rattle.std.proofs.lemmas.Iterator.{YieldsList}
-use Rattle.std.proofs.lemmas.Iterator.Consumers.{YieldsList-turn, YieldsList-end}
 use Rattle.lists.specs.Lists.{every}
 use Rattle.lists.specs.Questions.{◌then◌, ◌⁇◌, first_no}
-use Rattle.lists.proofs.Loops.{Passing, passing_more, halted, passed, drop_more}
+use Rattle.lists.proofs.Loops.{Passing, passing, passing_more, halted, passed, drop_more}
 use Rattle.lists.proofs.Questions.{no, then_yes, refuses, accepts}
 use Rattle.figures.specs.Figures.{value, is_figure, ReadAs}
 use Rattle.lines.specs.Fields.{longest, fields}
@@ -36,6 +33,9 @@ pub record Gathering (fs : List (List ℕ)) (i : ℕ) (figures : List ℕ) : Typ
   pub written : take i figures ≡ map value (take i fs)
 
 module _ {fs : List (List ℕ)} {figures : List ℕ} where
+  pub gathering : length figures ≡ length fs → Gathering fs 0 figures
+  gathering e = record { same = e; tested = passing; written = refl }
+
   module _ {i : ℕ} (g : Gathering fs i figures) where
     module _ (h : i < length fs) {f : List ℕ} (e : f ≡ get_or fs i []) {o : Option ℕ} (r : ReadAs (is_figure f) f o) where
       pub gathering_more : {v : ℕ} → o ≡ Some v → Gathering fs (i + 1) (set figures i v)
@@ -59,14 +59,6 @@ module _ {fs : List (List ℕ)} {figures : List ℕ} where
 
       pub gathered : figures ≡ map value fs
       gathered = sym (take_all i figures (omega (arith, g.same))) ∙ g.written ∙ ap (map value) (take_all i fs h)
-
--- a turn and the end of a loop over an iterator, with the list that it gives last: antt then knows the iterator's calls when it reads that argument
-module _ {S A B : Type 0} {steps : S → Option A → S → Type 0} {s : S} (xs : List A) (t u : S) {r : Option A} (y : Yields steps s xs t) (p : steps t r u) {v : A → B} {all : List B} where
-  pub turn_of : {x : A} → r ≡ Some x → YieldsList steps v s all → (length xs < length all) × (v x ≡ get_or all (length xs) (v x))
-  turn_of {x} e road = YieldsList-turn road xs t y r u x e p
-
-  pub end_of : r ≡ None → YieldsList steps v s all → length xs ≡ length all
-  end_of e road = (YieldsList-end road xs t y r u e p).1
 
 -- ---- the questions, with what a step has found
 

@@ -72,6 +72,9 @@ module _ {line part : Bor (List ℕ)} where
   same-part p q i = record { place = i.place ∙ ap (λ (k : ℕ). (line.ref_ptr.0, k + line.ref_ptr.1)) p; content = i.content ∙ q }
 
   module _ (index : ℕ) {n : ℕ} (e : n ≡ field_number line.now index) where
+    pub part_none : (n ≡ 0 → ⊥) → Part line part 0 [] → Part line part (field_start line.now index) (field_bytes line.now index)
+    part_none h = same-part (start_none line.now index e h) (bytes-none line.now index e h)
+
     pub part-there : n ≡ 0 → {r : ℕ} → Starts line.now index r → Part line part r (first_field (drop r line.now))
         → Part line part (field_start line.now index) (field_bytes line.now index)
     part-there z s = same-part (start-there line.now index e z s) (bytes-there line.now index e z s)

@@ -1,7 +1,7 @@
 // Fields of a line, parted by commas: where the next comma stands, and a field handed back as a part of the line. Line and index stay two parameters:
 // they are what the field call is given, here and by C.
-ghost use Rattle.std.specs.Prelude.{◌≡◌, ◌≤◌, MatchOption, IfOk, length, drop};
-ghost use Rattle.refusals.specs.Numbers.{number};
+ghost use Rattle.std.specs.Prelude.{◌≡◌, ◌≤◌, MatchOption, IfOk, MatchResult, length, drop};
+ghost use Rattle.refusals.specs.Numbers.{refusal_number, number};
 ghost use Rattle.lines.specs.Fields.{to_comma, next_comma, fields, field_number, field_bytes, field_start, Part};
 ghost use Rattle.lines.specs.Inner.{first_field, Starts};
 
@@ -66,11 +66,23 @@ pub fn ask_field(line: &[u8], index: u64) -> Result<usize, Refusal>
     field_start(line, index).ok_or(Refusal::FieldCount)
 }
 
-// The field call: the field's bytes, a part of the line.
-pub fn field<'a>(line: &'a [u8], index: u64) -> Result<&'a [u8], Refusal>
-    ensures number { number result ≡ field_number line.now index }
-    ensures part { IfOk result (λ part. Part line.entry part (field_start line.now index) (field_bytes line.now index)) }
+// A refused field call: why, and the empty part of the line that is handed back.
+#[derive(Clone, Copy)]
+pub struct NoField<'a> {
+    pub refusal: Refusal,
+    pub part: &'a [u8],
+}
+
+// The field call: the field's bytes, a part of the line; refused, an empty one.
+pub fn field<'a>(line: &'a [u8], index: u64) -> Result<&'a [u8], NoField<'a>>
+    ensures number { MatchResult result (λ part. 0 ≡ field_number line.now index) (λ none. refusal_number none.refusal ≡ field_number line.now index) }
+    ensures part { MatchResult result (λ part. Part line.entry part (field_start line.now index) (field_bytes line.now index)) (λ none. Part line.entry none.part (field_start line.now index) (field_bytes line.now index)) }
 {
-    let start = ask_field(line, index)?;
-    Ok(field_at(line, start))
+    match ask_field(line, index) {
+        Ok(start) => Ok(field_at(line, start)),
+        Err(refusal) => Err(NoField {
+            refusal,
+            part: &line[..0],
+        }),
+    }
 }

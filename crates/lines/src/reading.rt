@@ -8,7 +8,7 @@ ghost use Rattle.lines.specs.Fields.{fields};
 ghost use Rattle.lines.specs.Reading.{line_start, start_length, count_fits, ReadEnd, read_call, start_number, found, line_of};
 ghost use Rattle.lines.specs.Inner.{read_questions, ReadTo};
 
-use crate::fields::{FIELDS, LONGEST};
+use crate::fields::{FIELDS, LONGEST, field_at};
 use figures::reading::read_figure;
 use lists::copy_into;
 use refusals::{Refusal, ask, told};
@@ -111,14 +111,17 @@ fn count_fields(bytes: &[u8]) -> usize
     usize::from(count)
 }
 
-// Reads the fields, their figures to a list with as many places. By index: of what a loop over a zip of `iter_mut` wrote, nothing is known after it.
+// Reads the fields, their figures to a list with as many places.
 fn read_fields(bytes: &[u8], figures: &mut [u64]) -> Result<(), Refusal>
     requires { length figures.old ≡ length (fields bytes.now) }
     ensures number { number result ≡ first_no (every is_figure (fields bytes.now) ⁇ 29 ∷ []) }
     ensures figures { OnOk result (figures.new ≡ map value (fields bytes.now)) }
 {
-    for (i, field) in bytes.split(|b| *b == b',').enumerate() {
-        figures[i] = read_figure(field).ok_or(Refusal::NotFigure)?;
+    let mut at = 0;
+    for figure in figures.iter_mut() {
+        let field = field_at(bytes, at);
+        *figure = read_figure(field).ok_or(Refusal::NotFigure)?;
+        at += field.len() + 1;
     }
     Ok(())
 }

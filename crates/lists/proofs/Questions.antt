@@ -22,6 +22,10 @@ unfolding ◌then◌
 then_no k zero m e h = absurd (h e)
 then_no k (suc n) m e h = e
 
+pub yes : (b : Bool) (n : ℕ) (qs : List Question) (r : ℕ) → b ≡ true → r ≡ first_no qs → r ≡ first_no (b ⁇ n ∷ qs)
+unfolding first_no
+yes b n qs r e p = rw e p
+
 pub no : (b : Bool) (n : ℕ) (qs : List Question) → b ≡ false → n ≡ first_no (b ⁇ n ∷ qs)
 unfolding first_no
 no b n qs e = rw e
@@ -30,10 +34,18 @@ pub part-yes : (n : ℕ) (qs : List Question) (x r : ℕ) → x ≡ n → x ≡ 
 unfolding first_no
 part-yes n qs x r e z p = then_yes n (first_no qs) r (sym z ∙ e) p
 
+pub part_no : (n : ℕ) (qs : List Question) (x : ℕ) → x ≡ n → (x ≡ 0 → ⊥) → x ≡ first_no (part n ∷ qs)
+unfolding first_no
+part_no n qs x e h = then_no x n (first_no qs) e h
+
 pub part-last : (n x : ℕ) → x ≡ n → x ≡ first_no (part n ∷ [])
 unfolding first_no ◌then◌
 part-last zero x e = e
 part-last (suc n) x e = e
+
+pub all_yes : 0 ≡ first_no []
+unfolding first_no
+all_yes = refl
 
 -- a list that gave 0: its first question was answered yes, or its first part gave 0, and so with the rest
 pub asked : (b : Bool) (n : ℕ) (qs : List Question) → T (ltb 0 n) → first_no (b ⁇ n ∷ qs) ≡ 0 → (b ≡ true) × (first_no qs ≡ 0)

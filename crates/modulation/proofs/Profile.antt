@@ -1,7 +1,7 @@
 -- Step 1 by running totals of the profile, and steps 1 and 2 of each plant. Assumes nothing.
 use mathlib.Core.Path.{◌≡◌, refl, sym, ap, ◌∙◌, subst}
 use mathlib.Core.List.{List, [], ◌∷◌, ◌++◌, map}
-use Prim.Native.Nat.{ℕ, suc, ◌+◌, ◌-◌, ◌*◌, ◌/◌, ◌^◌, ◌≤◌}
+use Prim.Native.Nat.{ℕ, suc, ◌+◌, ◌-◌, ◌*◌, ◌/◌, ◌^◌, ◌≤◌, ◌<◌}
 use native.Mathlib.Nat.{le_trans, le_of_eq}
 use native.Mathlib.Omega.{arith}
 use lib.ListN.{length, take, get_or, length-map}
@@ -17,7 +17,7 @@ use Rattle.plants.specs.declared.Plant.{Plant}
 use Rattle.plants.specs.Plants.{none}
 use Rattle.modulation.specs.declared.Modulation.{Modulation}
 use Rattle.modulation.specs.Guarantee.{modulated_in, guarantee_with, guarantee_in, InLimits}
-use Rattle.modulation.specs.Totals.{Modulates, part_of, guarantee_of}
+use Rattle.modulation.specs.Totals.{Ordered, Modulates, modulation_of, part_of, guarantee_of}
 use Rattle.modulation.proofs.Digits.{scaled}
 
 module _ (l : List ℕ) (k : ℕ) where
@@ -36,6 +36,19 @@ totals-rise profile k = (
   subst (λ l. sum l ≤ sum (take k profile)) (take-take (k - 1) k profile (omega arith)) (part-le-sum (take k profile) 0 (k - 1)),
   part-le-sum profile 0 k,
 )
+
+pub ordered : (profile : List ℕ) (k : ℕ) → 0 < sum profile → sum profile < 2 ^ 43 → Ordered (modulation_of profile k)
+unfolding modulation_of
+ordered profile k some small = let t = totals-rise profile k in record { lower = t.0; upper = t.1; some = some; small = small }
+
+pub modulates : {profile : List ℕ} {k : ℕ} {m : Modulation} → m ≡ modulation_of profile k → Modulates profile k m
+unfolding modulation_of
+modulates e =
+    record {
+      before_is = ap (λ (m : Modulation). m.before) e;
+      upto_is = ap (λ (m : Modulation). m.upto) e;
+      whole_is = ap (λ (m : Modulation). m.whole) e;
+    }
 
 -- the part is no more than Q
 pub part-le : (q c w less : ℕ) → c ≤ w → q * c / w - less ≤ q

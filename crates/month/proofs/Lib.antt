@@ -5,3 +5,4 @@ pub mod Asked
 pub mod Ends
 pub mod Workable
 pub mod StatementAsked
+pub mod Many

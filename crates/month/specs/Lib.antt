@@ -3,3 +3,4 @@ pub mod Questions
 pub mod Answers
 pub mod Calls
 pub mod Statement
+pub mod Laws

@@ -10,6 +10,7 @@ use crate::collecting::collect;
 use file_lines::lent::LentFile;
 use file_lines::taking::take_line;
 use file_lines::{FileStage, MonthFile};
+use records::tables::PlantTable;
 use refusals::Refusal;
 
 // The bytes up to the end of a line, or of the part. Answers where the part goes on, behind the line's byte 10; with none, no line of it is left.
@@ -35,9 +36,9 @@ fn next_line(file: &mut MonthFile, part: &[u8], from: usize, line: &mut [u8]) ->
 
 // One part of the file: line by line, to the part's end. A turn takes a line, so no iterator over the bytes goes in its place.
 // The line is no list of the file: it is lent to be read while the file is lent to be written.
-pub fn feed(file: &mut LentFile<'_, '_, '_, '_>, part: &[u8], line: &mut [u8])
+pub fn feed<T: PlantTable>(file: &mut LentFile<'_, '_, '_, '_, T>, part: &[u8], line: &mut [u8])
     requires { longest ≤ length line.old }
-    ensures fed { Fed file.old.state (lent_lists file.old) line.old part.now file.new.state (lent_lists file.new) line.new }
+    ensures fed { Fed file.old.state (lent_lists T.rows file.old) line.old part.now file.new.state (lent_lists T.rows file.new) line.new }
     ensures same { SameLists file.old file.new }
 {
     let mut at: usize = 0;

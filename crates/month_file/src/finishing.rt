@@ -15,7 +15,10 @@ use file_lines::lent::FileView;
 use file_lines::{FileStage, MonthFile};
 use lines::fields::FIELDS;
 use lines::reading::read_line;
+use lists::PLANTS;
 use month::stating::write_rows;
+use plants::Plant;
+use records::tables::PlantTable;
 use refusals::Refusal;
 use statement::writing::write_leading;
 
@@ -62,9 +65,9 @@ fn at_end(file: MonthFile, line: &[u8]) -> MonthFile
 // Every period is settled: the month is closed, which is not refused here, and its statement written. The text's room is asked: a type for it would be
 // made for one call of `finish` alone.
 #[tactic(auto, unfolding(statement::specs::Statement::room_for))]
-fn write_month(file: MonthFile, lists: FileView<'_>, text: &mut [u8]) -> usize
-    requires { Finishable file (viewed_lists lists) × (room_for 512 ≤ length text.old) }
-    ensures { Fills (printed file.count (progress_of file (viewed_lists lists.entry))) text.old result text.new }
+fn write_month<T: PlantTable>(file: MonthFile, lists: FileView<'_, T>, text: &mut [u8]) -> usize
+    requires { Finishable file (viewed_lists T.rows lists) × (room_for 512 ≤ length text.old) }
+    ensures { Fills (printed file.count (progress_of file (viewed_lists T.rows lists.entry))) text.old result text.new }
 {
     let mut month = file.month;
     if let Err(refusal) = month.close() {
@@ -72,16 +75,24 @@ fn write_month(file: MonthFile, lists: FileView<'_>, text: &mut [u8]) -> usize
     }
     let rows = file.month.plants as usize;
     let ledger = lists.ledger_of(rows);
-    write_rows(month.due - 1, &lists.plants[..rows], ledger, text)
+    // no heap: room for the most plants
+    let mut room = [Plant::default(); PLANTS];
+    let plants = lists.plants.front(rows, &mut room);
+    write_rows(month.due - 1, plants, ledger, text)
 }
 
 // The input has ended: what is printed stands at the front of the text, and its length is answered. The lists are read, as C lends them for this call,
 // so that they fit the state is asked here: to make a file of them they would have to be lent `&mut`.
 #[tactic(auto, unfolding(statement::specs::Statement::room_for))]
-pub fn finish(file: MonthFile, line: &[u8], lists: FileView<'_>, text: &mut [u8]) -> usize
+pub fn finish<T: PlantTable>(
+    file: MonthFile,
+    line: &[u8],
+    lists: FileView<'_, T>,
+    text: &mut [u8],
+) -> usize
     requires longest_in_bounds { (longest ≤ length line.now) × (room_for 512 ≤ length text.old) }
-    requires valid { Valid file (viewed_lists lists) }
-    ensures { Fills (finished (reading_of file (viewed_lists lists.entry) line.now)) text.old result text.new }
+    requires valid { Valid file (viewed_lists T.rows lists) }
+    ensures { Fills (finished (reading_of file (viewed_lists T.rows lists.entry) line.now)) text.old result text.new }
 {
     let end = at_end(file, line);
     if end.stage == FileStage::Refused {

@@ -1,2 +1,3 @@
 -- Laws of the plants' figures.
 pub mod Submarkets
+pub mod Table

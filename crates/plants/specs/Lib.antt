@@ -1,2 +1,4 @@
 -- The plant table's rows.
 pub mod Plants
+pub mod Table
+pub mod Laws

@@ -1,4 +1,4 @@
-// The C interface: every public call under one prefix, with the contract of the call that it hands on. include/iolwarch.h
+// The C interface: every public call under one prefix, with the contract of the call that it hands on, and with its answer in C's form. include/iolwarch.h
 // declares these functions for C.
 #![tactic(auto)]
 

@@ -1,38 +1,33 @@
 -- Rows read from columns and written to them: the laws of the loops, and the promises of `specs/Laws`. Assumes nothing.
 use mathlib.Core.Path.{◌≡◌, refl, ap, sym, ◌∙◌}
-use mathlib.Core.List.{List, [], ◌∷◌}
-use Prim.Native.Nat.{ℕ, zero, suc, ◌+◌, ◌<◌, ◌≤◌}
+use mathlib.Core.List.{List, [], ◌∷◌, ◌++◌}
+use mathlib.Core.Logic.{by_cases}
+use Prim.Native.Nat.{ℕ, zero, suc, ◌+◌, ◌*◌, ◌<◌, ◌≤◌}
 use native.Mathlib.Nat.{add-zero, zero-add}
+use native.Mathlib.Decide.{ℕ_discrete}
 use native.Mathlib.Omega.{arith}
-use lib.ListN.{length, get_or, drop, set, length-set, drop_of_length-le}
-use lib.Seq.{get_or-set_same, get_or-set_other, ext_get_or}
-use Rattle.std.proofs.lemmas.List.{set-get_or}
-use Rattle.lists.specs.Lists.{table_from}
-use Rattle.lists.proofs.Loops.{drop_more}
+use lib.ListN.{length, get_or, take, drop, set, length-set, length-take, length-drop}
+use lib.Seq.{get_or-set_same, get_or-set_other, ext_get_or, length-take-le, get_or-take}
+use Rattle.std.proofs.lemmas.List.{set-get_or, take-append-le, take_all}
+use Rattle.lists.specs.Lists.{table, table_from}
+use Rattle.lists.proofs.Parts.{part_at}
 use Rattle.lists.proofs.Sums.{length-table, get_or-table}
 use Rattle.plants.specs.declared.Plant.{Plant}
 use Rattle.plants.specs.Plants.{none}
-use Rattle.records.specs.Records.{row_at, rows_of, put_row, put_rows, table_places}
+use Rattle.plants.specs.Table.{plants_of}
+use Rattle.plants.specs.Laws.{plant}
+use Rattle.plants.proofs.Table.{made}
+use Rattle.records.specs.Records.{column_of, row_at, rows_of, put_row, put_rows, table_places}
 use Rattle.records.specs.Laws.{Columns}
 
-length-put_row : (c : List ℕ) (i : ℕ) (p : Plant) → length (put_row c i p) ≡ length c
+pub length-put_row : (c : List ℕ) (i : ℕ) (p : Plant) → length (put_row c i p) ≡ length c
 unfolding put_row
 length-put_row c i p = simp length-set
-
--- a turn of the writing of rows, and its end
-pub put_more : (ps : List Plant) (i : ℕ) (c : List ℕ) {d : List ℕ} → i < length ps → d ≡ put_row c i (get_or ps i none)
-    → put_rows d (i + 1) (drop (i + 1) ps) ≡ put_rows c i (drop i ps)
-unfolding put_rows
-put_more ps i c l e = rw (e, drop_more ps i none l)
-
-pub put_all : (ps : List Plant) (i : ℕ) (c : List ℕ) → length ps ≤ i → c ≡ put_rows c i (drop i ps)
-unfolding put_rows
-put_all ps i c l = rw (drop_of_length-le ps {i = i} l)
 
 -- ---- one row
 
 -- a place that is of no column's row i
-other : (c : List ℕ) (i : ℕ) (p : Plant) (a : ℕ) → (a ≡ i → ⊥) → (a ≡ 512 + i → ⊥) → (a ≡ 1024 + i → ⊥) → (a ≡ 1536 + i → ⊥) → (a ≡ 2048 + i → ⊥)
+pub other : (c : List ℕ) (i : ℕ) (p : Plant) (a : ℕ) → (a ≡ i → ⊥) → (a ≡ 512 + i → ⊥) → (a ≡ 1024 + i → ⊥) → (a ≡ 1536 + i → ⊥) → (a ≡ 2048 + i → ⊥)
     → get_or (put_row c i p) a 0 ≡ get_or c a 0
 unfolding put_row
 other c i p a h₀ h₁ h₂ h₃ h₄ = simp get_or-set_other
@@ -153,6 +148,64 @@ read c ps e long =
     (λ i l. (let inside : i < 512 = omega (arith, length-rows 512 d) in
     row-at 512 d i inside ∙ ap (row_at d) (sym (zero-add i)) ∙ written ps c 0 i (omega arith) e (omega arith)))
 
+-- ---- the five columns make the rows
+
+module _ (n : ℕ) (c : List ℕ) (e : table_places ≤ length c) (few : n ≤ 512) where
+  pub length-column : (k : ℕ) → k < 5 → length (column_of k n c) ≡ n
+  unfolding column_of
+  length-column k s = simp (length-take, length-drop) (omega arith)
+
+  column-at : (k i : ℕ) → i < n → get_or (column_of k n c) i 0 ≡ get_or c (512 * k + i) 0
+  unfolding column_of
+  column-at k i l = part_at n (512 * k) c i 0 l
+
+  row_made : (i : ℕ) → i < n
+      → plant (get_or (column_of 0 n c) i 0) (get_or (column_of 1 n c) i 0) (get_or (column_of 2 n c) i 0) (get_or (column_of 3 n c) i 0) (get_or (column_of 4 n c) i 0) ≡ row_at c i
+  unfolding row_at
+  row_made i l = λ x. record {
+    submarket = (column-at 0 i l ∙ ap (λ (k : ℕ). get_or c k 0) (zero-add i)) x;
+    number = column-at 1 i l x;
+    guarantee = column-at 2 i l x;
+    loss = column-at 3 i l x;
+    availability = column-at 4 i l x;
+  }
+
+  pub columns-rows : plants_of (column_of 0 n c) (column_of 1 n c) (column_of 2 n c) (column_of 3 n c) (column_of 4 n c) ≡ rows_of n c
+  columns-rows =
+      let first = length-column 0 (omega arith) in
+      let count = made.count (column_of 0 n c) (column_of 1 n c) (column_of 2 n c) (column_of 3 n c) (column_of 4 n c) in
+      ext_get_or none _ _ (count ∙ (first ∙ sym (length-rows n c)))
+      (λ i l. (let inside : i < n = omega (arith, count, first) in
+      made.row i _ _ _ _ _ none (omega (arith, first)) ∙ (row_made i inside ∙ sym (row-at n c i inside))))
+
 pub columns : Columns
 unfolding rows_of
-columns = record { back = λ c. rows_back c 0 512; read = read }
+columns = record { back = λ c. rows_back c 0 512; read = read; made = columns-rows }
+
+-- ---- one row of 512
+
+-- the row at place i is put, and the others stay
+pub rows_put : (c : List ℕ) (i : ℕ) (p : Plant) → table_places ≤ length c → i < 512 → rows_of 512 (put_row c i p) ≡ set (rows_of 512 c) i p
+rows_put c i p long l =
+    let d = put_row c i p in
+    ext_get_or none (rows_of 512 d) (set (rows_of 512 c) i p) (length-rows 512 d ∙ sym (length-set (rows_of 512 c) i p ∙ length-rows 512 c))
+    (λ j h. (let inside : j < 512 = omega (arith, length-rows 512 d, h) in
+    row-at 512 d j inside ∙ by_cases (ℕ_discrete j i)
+    (λ e. rw e (row_put c i p long l ∙ sym (get_or-set_same (rows_of 512 c) i p none (omega (arith, length-rows 512 c)))))
+    (λ n. row_other c i j p l inside n ∙ sym (get_or-set_other (rows_of 512 c) i j p none n ∙ row-at 512 c j inside))))
+
+-- the first rows
+pub rows_front : (n : ℕ) (c : List ℕ) → n ≤ 512 → take n (rows_of 512 c) ≡ rows_of n c
+rows_front n c b =
+    let long : n ≤ length (rows_of 512 c) = omega (arith, length-rows 512 c) in
+    ext_get_or none (take n (rows_of 512 c)) (rows_of n c) (length-take-le n (rows_of 512 c) long ∙ sym (length-rows n c))
+    (λ i l. (let inside : i < n = omega (arith, length-take-le n (rows_of 512 c) long, l) in
+    get_or-take n (rows_of 512 c) i none inside ∙ (row-at 512 c i (omega arith) ∙ sym (row-at n c i inside))))
+
+-- ... at the front of a list that they were copied to
+pub front_filled : (n : ℕ) (c : List ℕ) (lent : List Plant) {filled : List Plant} → filled ≡ table n (row_at c) ++ drop n lent → n ≤ 512
+    → take n filled ≡ take n (rows_of 512 c)
+unfolding rows_of
+front_filled n c lent e b =
+    ap (take n) e ∙ (take-append-le n (table n (row_at c)) (drop n lent) (omega (arith, length-table (row_at c) n))
+    ∙ (take_all n (table n (row_at c)) (omega (arith, length-table (row_at c) n)) ∙ sym (rows_front n c b)))

@@ -57,6 +57,19 @@ module _ (subs xs : List ℕ) (same : length xs ≡ length subs) where
             miss : (s ≡ t → ⊥) → set out (4 * i + (t - 1)) x ! m ≡ inside s t x
             miss p = rw (ne_eqb t s (λ q. p (sym q))) (get_or-set_other out (4 * i + (t - 1)) m x 0 (λ q. p (omega arith)) ∙ k.ahead m (omega arith))
 
+    -- row i is in none of the four
+    pub starting_none : ((1 ≤ subs ! i) × (subs ! i ≤ 4) → ⊥) → Starting all out (i + 1)
+    starting_none far =
+        record {
+          behind = λ m l. by_cases (dec_lt m (4 * i)) (k.behind m) (λ u. zero_there m (m - 4 * i + 1) (omega arith) (omega arith) (omega arith));
+          ahead = λ m l. k.ahead m (omega arith);
+        }
+      where
+        zero_there : (m s : ℕ) → 1 ≤ s → s ≤ 4 → m ≡ 4 * i + (s - 1) → out ! m ≡ all ! m
+        zero_there m s l u place =
+            let zero : inside s (subs ! i) (xs ! i) ≡ 0 = rw (ne_eqb (subs ! i) s (λ e. far (rw e (l, u)))) in
+            k.ahead m (omega arith) ∙ sym (ap (λ (n : ℕ). all ! n) place ∙ own_at subs xs same s l u i ∙ zero)
+
   pub started : {out : List ℕ} {i : ℕ} → Starting all out i → length subs ≤ i → length out ≡ 4 * length subs → out ≡ all
   started {out} k over sized = ext_get_or 0 out all (sized ∙ sym (own-sized subs xs same)) (λ m l. k.behind m (omega arith))
 

@@ -2,12 +2,12 @@
 // All lists have a figure for each plant.
 #![tactic(auto)]
 
-ghost use Rattle.std.specs.Prelude.{◌≡◌, ℕ, ◌-◌, ◌*◌, ◌^◌, ◌≤◌, ◌<◌, length, get_or};
+ghost use Rattle.std.specs.Prelude.{◌≡◌, ◌-◌, ◌*◌, ◌^◌, ◌≤◌, ◌<◌, length};
 ghost use Rattle.std.proofs.Math.IntN.{sub_ℕ};
 ghost use Rattle.lists.specs.Lists.{sum, most, Within};
 ghost use Rattle.lists.specs.Columns.{rowwise, ◌⊕◌, ◌⊖◌, ◌⊓◌, within, four, totals, by_row};
 ghost use Rattle.sharing.specs.Sharing.{share};
-ghost use Rattle.plants.specs.Plants.{none, submarkets_of};
+ghost use Rattle.plants.specs.Plants.{submarkets_of};
 ghost use Rattle.blocks.specs.Portion.{Standing};
 ghost use Rattle.rows.specs.Steps.{covered_by, rights_by};
 
@@ -15,7 +15,7 @@ use plants::Plant;
 use sharing::Weights;
 
 // Step 7: rights to secondary energy r. Beside `share_up_to`: test and copied list differ, and one function would take both as arguments.
-fn rights_into(secondary: u64, a: Weights<'_>, metered: &[u64], r: &mut [u64])
+pub fn rights_into(secondary: u64, a: Weights<'_>, metered: &[u64], r: &mut [u64])
     requires { (length metered.now ≡ length a.figures.now) × (length r.old ≡ length a.figures.now) }
     ensures { r.new ≡ rights_by share secondary a.entry.figures.now metered.now }
 {
@@ -41,76 +41,67 @@ pub fn share_out(metered: &[u64], a: Weights<'_>, b: &mut [u64], r: &mut [u64]) 
     secondary
 }
 
-// The rows: the plants, each in one of the four submarkets, with a figure of each plant metered, covered and of rights.
-#[derive(Clone, Copy)]
-struct Rows<'a> {
-    plants: &'a [Plant],
-    metered: &'a [u64],
-    covered: &'a [u64],
-    rights: &'a [u64],
-    ghost placed: { (i : ℕ) → i < length plants.now → (1 ≤ (get_or plants.now i none).submarket) × ((get_or plants.now i none).submarket ≤ 4) },
-    ghost metered_len: { length metered.now ≡ length plants.now },
-    ghost covered_len: { length covered.now ≡ length plants.now },
-    ghost rights_len: { length rights.now ≡ length plants.now },
+// Step 4: deficits d.
+pub fn deficits_into(covered: &[u64], metered: &[u64], d: &mut [u64])
+    requires { (length metered.now ≡ length covered.now) × (length d.old ≡ length covered.now) }
+    ensures { d.new ≡ covered.now ⊖ metered.now }
+{
+    // by index, as in `nets_into` and `start_into`: of what a loop over a zip of `iter_mut` wrote, nothing is known after it
+    for (i, b) in covered.iter().enumerate() {
+        d[i] = b.saturating_sub(metered[i]);
+    }
 }
 
-impl Rows<'_> {
-    // Step 4: deficits d.
-    fn deficits_into(self, d: &mut [u64])
-        requires { length d.old ≡ length self.plants.now }
-        ensures { d.new ≡ self.entry.covered.now ⊖ self.entry.metered.now }
-    {
-        // by index, as in `nets_into` and `start_into`: of what a loop over a zip of `iter_mut` wrote, nothing is known after it
-        for (i, b) in self.covered.iter().enumerate() {
-            d[i] = b.saturating_sub(self.metered[i]);
-        }
+// Step 8: nets.
+pub fn nets_into(metered: &[u64], covered: &[u64], rights: &[u64], nets: &mut [i64])
+    requires covered_len { (length covered.now ≡ length metered.now) × (length rights.now ≡ length metered.now) × (length nets.old ≡ length metered.now) }
+    requires within { Within metered.now most × Within covered.now most × Within rights.now most }
+    ensures { nets.new ≡ rowwise sub_ℕ 0 0 metered.now (covered.now ⊕ rights.now) }
+{
+    for (i, g) in metered.iter().enumerate() {
+        nets[i] = signed::net_of(*g, covered[i], rights[i]);
     }
+}
 
-    // Step 8: nets.
-    fn nets_into(self, nets: &mut [i64])
-        requires nets_len { length nets.old ≡ length self.plants.now }
-        requires within { Within self.metered.now most × Within self.covered.now most × Within self.rights.now most }
-        ensures { nets.new ≡ rowwise sub_ℕ 0 0 self.entry.metered.now (self.entry.covered.now ⊕ self.entry.rights.now) }
-    {
-        for (i, g) in self.metered.iter().enumerate() {
-            nets[i] = signed::net_of(*g, self.covered[i], self.rights[i]);
-        }
+// Step 4: the surpluses U of the submarkets.
+#[tactic(auto, using(crate::proofs::Submarkets::placed))]
+pub fn surplus_by(plants: &[Plant], metered: &[u64], covered: &[u64]) -> [u64; 4]
+    requires metered_len { (length metered.now ≡ length plants.now) × (length covered.now ≡ length plants.now) }
+    requires standing { Standing 0 (submarkets_of plants.now) }
+    requires metered_bound { sum metered.now ≤ most }
+    ensures { result ≡ totals (submarkets_of plants.now) (metered.now ⊖ covered.now) }
+{
+    let mut surplus = [0; 4];
+    // by index: each row adds to the sum of its own submarket
+    for (i, plant) in plants.iter().enumerate() {
+        let s = (plant.submarket - 1) as usize;
+        surplus[s] += metered[i].saturating_sub(covered[i]);
     }
+    surplus
+}
 
-    // Step 4: the surpluses U of the submarkets.
-    fn surplus(self) -> [u64; 4]
-        requires { sum self.metered.now ≤ most }
-        ensures { result ≡ totals (submarkets_of self.entry.plants.now) (self.entry.metered.now ⊖ self.entry.covered.now) }
-    {
-        let mut surplus = [0; 4];
-        // by index: each row adds to the sum of its own submarket
-        for (i, plant) in self.plants.iter().enumerate() {
+// Step 8, begun: min(G, b) in the own submarket, zero in the others; four zeros for a row in none of the four.
+#[tactic(auto, using(lists::proofs::Questions::limits))]
+pub fn start_into(plants: &[Plant], metered: &[u64], covered: &[u64], allotment: &mut [u64])
+    requires metered_len { (length metered.now ≡ length plants.now) × (length covered.now ≡ length plants.now) }
+    requires allotment_len { length allotment.old ≡ 4 * length plants.now }
+    ensures { allotment.new ≡ by_row 0 (four (λ s. within s (submarkets_of plants.now) (metered.now ⊓ covered.now))) }
+{
+    allotment.fill(0);
+    for (i, plant) in plants.iter().enumerate() {
+        if lists::in_range(1, 4, plant.submarket) {
             let s = (plant.submarket - 1) as usize;
-            surplus[s] += self.metered[i].saturating_sub(self.covered[i]);
-        }
-        surplus
-    }
-
-    // Step 8, begun: min(G, b) in the own submarket, zero in the others.
-    fn start_into(self, allotment: &mut [u64])
-        requires { length allotment.old ≡ 4 * length self.plants.now }
-        ensures { allotment.new ≡ by_row 0 (four (λ s. within s (submarkets_of self.entry.plants.now) (self.entry.metered.now ⊓ self.entry.covered.now))) }
-    {
-        allotment.fill(0);
-        for (i, plant) in self.plants.iter().enumerate() {
-            let s = (plant.submarket - 1) as usize;
-            allotment[4 * i + s] = self.metered[i].min(self.covered[i]);
+            allotment[4 * i + s] = metered[i].min(covered[i]);
         }
     }
 }
 
 // Step 4, and step 8 begun: fills deficits, nets and the allotment's own figures, and answers the surpluses U.
-#[tactic(auto, using(crate::proofs::Submarkets::placed))]
-pub fn prepare<'a>(
-    plants: &'a [Plant],
-    metered: &'a [u64],
-    covered: &'a [u64],
-    rights: &'a [u64],
+pub fn prepare(
+    plants: &[Plant],
+    metered: &[u64],
+    covered: &[u64],
+    rights: &[u64],
     d: &mut [u64],
     nets: &mut [i64],
     allotment: &mut [u64],
@@ -124,14 +115,8 @@ pub fn prepare<'a>(
     ensures allotment_after { allotment.new ≡ by_row 0 (four (λ s. within s (submarkets_of plants.now) (metered.now ⊓ covered.now))) }
     ensures value { result ≡ totals (submarkets_of plants.now) (metered.now ⊖ covered.now) }
 {
-    let rows = Rows {
-        plants,
-        metered,
-        covered,
-        rights,
-    };
-    rows.deficits_into(d);
-    rows.nets_into(nets);
-    rows.start_into(allotment);
-    rows.surplus()
+    deficits_into(covered, metered, d);
+    nets_into(metered, covered, rights, nets);
+    start_into(plants, metered, covered, allotment);
+    surplus_by(plants, metered, covered)
 }

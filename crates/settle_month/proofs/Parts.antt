@@ -6,7 +6,7 @@ use mathlib.Core.Bool.{Bool, true, false, true≢false}
 use Rattle.std.proofs.Common.{append_assoc, append-nil}
 use Rattle.std.proofs.KnownBytes.{Consumes-nil, Consumes-trans, Consumes-whole}
 use Rattle.std.specs.Io.KnownBytes.{Consumes}
-use Rattle.std.specs.Prelude.{IfSome, Some}
+use Rattle.std.specs.Prelude.{Some}
 use Rattle.std.specs.declared.option.Option.{Option}
 use Rattle.statement.specs.Writing.{Fills}
 use Rattle.file_lines.specs.declared.MonthFile.{MonthFile}
@@ -39,10 +39,6 @@ module _ {a b : Option (List ℕ)} {room : ℕ} {p q : Place} (t : Taken a b roo
         given = subst (Consumes a c) (sym (flatten_more t.parts bytes)) (Consumes-trans a b c (flatten t.parts) bytes t.given d);
         ended = λ e. absurd (true≢false (sym e));
       }
-
--- what holds where something is answered
-pub if_there : {holds : Type 0} (o : Option Unit) → IfSome o (λ _. holds) → o ≡ Some tt → holds
-if_there {holds} o h e = subst (λ (q : Option Unit). IfSome q (λ _. holds)) e h
 
 -- before the first part
 pub none_taken : {old : Option (List ℕ)} {room : ℕ} {p : Place} → Taken old old room false p p

@@ -2,7 +2,7 @@
 // and its statement'). All that it keeps lies in arrays of `main`.
 #![tactic(auto)]
 
-ghost use Rattle.std.specs.Prelude.{◌≡◌, ◌≤◌, true, IfSome, length, take};
+ghost use Rattle.std.specs.Prelude.{◌≡◌, ◌≤◌, true, is_some, length, take};
 ghost use Rattle.std.specs.Io.KnownBytes.{Appends};
 ghost use Rattle.lines.specs.Fields.{longest};
 ghost use Rattle.statement.specs.Statement.{room_for};
@@ -20,29 +20,35 @@ use lists::{PERIODS, PLANTS};
 use month_file::feeding::feed;
 use month_file::finishing::finish;
 use plants::Plant;
+use records::tables::PlantTable;
 use std::io::{Read, Write};
 
 // Feeds the bytes that a read put at the front of the part: all that it answered, and once.
-fn take_part(file: &mut LentFile<'_, '_, '_, '_>, part: &[u8], got: usize, line: &mut [u8])
+fn take_part<T: PlantTable>(
+    file: &mut LentFile<'_, '_, '_, '_, T>,
+    part: &[u8],
+    got: usize,
+    line: &mut [u8],
+)
     requires { longest ≤ length line.old }
-    ensures fed { Fed file.old.state (lent_lists file.old) line.old (take got part.now) file.new.state (lent_lists file.new) line.new }
+    ensures fed { Fed file.old.state (lent_lists T.rows file.old) line.old (take got part.now) file.new.state (lent_lists T.rows file.new) line.new }
     ensures same { SameLists file.old file.new }
 {
     let n = got.min(part.len());
     feed(file, &part[..n], line);
 }
 
-// Feeds what the input holds, part by part, to its end; none where it cannot be read to it. Where the reader says what it gives, these are its bytes, all
-// of them, and each once. Standard input says nothing: `read` alone knows of its end. Nothing says that an input ends, so the turns are counted, up to a
-// number that no run uses up.
-fn take_input<R: Read>(
+// Feeds what the input holds, part by part, to its end; none where it cannot be read to it. Where the reader says what it gives, these are its bytes, each
+// once, and all of them where something is answered. Standard input says nothing: `read` alone knows of its end. Nothing says that an input ends, so the
+// turns are counted, up to a number that no run uses up.
+fn take_input<R: Read, T: PlantTable>(
     input: &mut R,
-    file: &mut LentFile<'_, '_, '_, '_>,
+    file: &mut LentFile<'_, '_, '_, '_, T>,
     part: &mut [u8],
     line: &mut [u8],
 ) -> Option<()>
     requires { longest ≤ length line.old }
-    ensures taken { IfSome result (λ _. Taken (R.remaining input.old) (R.remaining input.new) (length part.old) true (place file.old.state (lent_lists file.old) line.old) (place file.new.state (lent_lists file.new) line.new)) }
+    ensures taken { Taken (R.remaining input.old) (R.remaining input.new) (length part.old) (is_some result) (place file.old.state (lent_lists T.rows file.old) line.old) (place file.new.state (lent_lists T.rows file.new) line.new) }
     ensures same { SameLists file.old file.new }
 {
     for _ in 0..u64::MAX {
@@ -57,9 +63,9 @@ fn take_input<R: Read>(
 
 // Settles the file that the input holds: what is to be printed stands at the front of the text. Answers its length; none, and nothing is written, where
 // the input cannot be read to its end.
-fn settle_input<R: Read>(
+fn settle_input<R: Read, T: PlantTable>(
     input: &mut R,
-    file: &mut LentFile<'_, '_, '_, '_>,
+    file: &mut LentFile<'_, '_, '_, '_, T>,
     part: &mut [u8],
     line: &mut [u8],
     text: &mut [u8],

@@ -66,11 +66,10 @@ pub fn share_up_to(t: u64, weights: Weights<'_>, parts: &mut [u64])
 pub fn share(total: u64, weights: &[u64], parts: &mut [u64]) -> Result<(), Refusal>
     ensures { ◌≡◌ {A = Shared} (record { number = number result; parts = parts.new }) (sharing_call total weights.now parts.old) }
 {
+    // the lengths before the sum: unequal lists cost nothing
+    ask(weights.len() == parts.len(), Refusal::Weights)?;
     let weights = Weights::of(weights).ok_or(Refusal::Weights)?;
-    ask(
-        weights.figures.len() == parts.len() && total < LIMIT,
-        Refusal::Weights,
-    )?;
+    ask(total < LIMIT, Refusal::Weights)?;
     ask(total == 0 || weights.total > 0, Refusal::NoWeight)?;
     share_into(total, weights, parts);
     Ok(())

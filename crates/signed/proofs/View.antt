@@ -1,7 +1,7 @@
 -- A signed number z as a difference of two naturals, `up z` less `dn z`, one of which is 0. `omega` reads no ℤ, and reads these.
---     view_plus, view_neg      what the parts of a sum and a negation are, as facts for `omega`'s list
---     same_view                two signed numbers with one difference are equal
---     abs_plus, abs_times      bounds on absolute values
+--     view_plus, view_minus, view_neg   what the parts of a sum, a difference and a negation are, as facts for `omega`'s list
+--     same_view                         two signed numbers with one difference are equal
+--     abs_plus, abs_times               bounds on absolute values
 -- Assumes nothing.
 use mathlib.Core.Path.{◌≡◌, refl, sym, ap, ◌∙◌}
 use mathlib.Core.Bool.{Bool, true, false, cond}
@@ -10,7 +10,7 @@ use native.Mathlib.Nat.{zero-mul, add-mul}
 use native.Mathlib.Omega.{arith}
 use borrow.Author.Tests.{ltb-true, ltb-false}
 use lib.Dec.{ltb}
-use lib.IntN.{ℤ, pos, negsuc, neg_ℤ, nat_abs, sub_ℕ, ◌+ℤ◌, ◌*ℤ◌}
+use lib.IntN.{ℤ, pos, negsuc, neg_ℤ, nat_abs, sub_ℕ, ◌+ℤ◌, ◌-ℤ◌, ◌*ℤ◌}
 
 abbrev pub up : ℤ → ℕ
 up (pos n) = n
@@ -50,6 +50,9 @@ view_neg (pos zero) = (refl, refl)
 view_neg (pos (suc n)) = (refl, refl)
 view_neg (negsuc n) = (refl, refl)
 
+pub view_minus : (x y : ℤ) → Parts (x -ℤ y) (up x + dn y) (dn x + up y)
+view_minus x y = omega (arith, view_plus x (neg_ℤ y), view_neg y)
+
 pub view_times : (x : ℤ) (t : ℕ) → (up (x *ℤ pos t) ≡ up x * t) × (dn (x *ℤ pos t) ≡ dn x * t)
 view_times (pos a) t = (refl, sym (zero-mul t))
 view_times (negsuc a) t = ((view_neg (pos (suc a * t))).0 ∙ sym (zero-mul t), (view_neg (pos (suc a * t))).1)
@@ -70,9 +73,18 @@ less_pos n = omega arith
 pub less_plus : {x y : ℤ} {a b c d : ℕ} → Parts x a b → Parts y c d → Parts (x +ℤ y) (a + c) (b + d)
 less_plus {x} {y} p q = omega (arith, view_plus x y)
 
+pub less_minus : {x y : ℤ} {a b c d : ℕ} → Parts x a b → Parts y c d → Parts (x -ℤ y) (a + d) (b + c)
+less_minus {x} {y} p q = omega (arith, view_minus x y)
+
 -- two numbers that are the same difference are equal
 pub same_less : {x y : ℤ} {a b : ℕ} → Parts x a b → Parts y a b → x ≡ y
 same_less {x} {y} p q = same_view x y (omega arith)
+
+-- net kWh: metered, less covered guarantee, less right to secondary energy
+pub net_is : (g b r : ℕ) → pos g -ℤ pos b -ℤ pos r ≡ sub_ℕ g (b + r)
+net_is g b r =
+    same_view (pos g -ℤ pos b -ℤ pos r) (sub_ℕ g (b + r))
+    (omega (arith, less_minus (less_minus (less_pos g) (less_pos b)) (less_pos r), view_sub g (b + r)))
 
 pub net_abs : (g b r : ℕ) → nat_abs (sub_ℕ g (b + r)) ≤ g + b + r
 net_abs g b r = omega (arith, view_sub g (b + r), view_abs (sub_ℕ g (b + r)))

@@ -22,7 +22,7 @@ use Rattle.statement.specs.Statement.{room_for}
 use Rattle.statement.specs.Lengths.{fields_length, leading_length, plant_line_length, plant_lines_length, total_line_length, statement_length}
 use Rattle.statement.specs.Writing.{Stateable}
 use Rattle.statement.specs.Laws.{InLimits, Promised}
-use Rattle.statement.proofs.Text.{length-statement, text-columns}
+use Rattle.statement.proofs.Text.{length-statement, text-shown, text-columns}
 
 -- ---- sums
 
@@ -103,6 +103,7 @@ promised =
     record {
       fits = λ settled plants l ok. subst (λ (n : ℕ). n ≤ room_for (length plants)) (sym (length-statement settled plants l)) (length-low settled plants l ok);
       sized = length-statement;
+      shown = text-shown;
       columns = text-columns;
     }
 

@@ -1,19 +1,20 @@
 -- Laws of the statement's text: its lines field by field, and how long they are. Assumes nothing.
 use mathlib.Core.Path.{◌≡◌, refl, sym, ap, ap₂, ◌∙◌}
 use mathlib.Core.List.{List, [], ◌∷◌, ◌++◌, map, append_assoc}
-use Prim.Native.Nat.{ℕ, suc, ◌+◌, ◌-◌, ◌*◌, ◌≤◌, ◌<◌}
+use Prim.Native.Nat.{ℕ, ◌+◌, ◌-◌, ◌*◌, ◌≤◌, ◌<◌}
 use native.Mathlib.Nat.{add-zero}
 use native.Mathlib.Omega.{arith}
 use lib.IntN.{ℤ, pos}
-use lib.ListN.{length, take, drop, get_or, length-append, drop_of_length-le}
+use lib.ListN.{length, take, drop, get_or, length-append, length-map, drop_of_length-le}
 use lib.Seq.{drop-drop, get_or-drop}
 use Rattle.lists.specs.Lists.{sum}
 use Rattle.lists.specs.Columns.{four}
 use Rattle.lists.proofs.Loops.{rest_more, rest-none, drop_more, at_drop}
 use Rattle.figures.specs.Figures.{figure, signed_figure, commas_before, by_commas, figure_length, signed_figure_length}
 use Rattle.plants.specs.declared.Plant.{Plant}
-use Rattle.hour.specs.Table.{plants_of}
 use Rattle.plants.specs.Plants.{none}
+use Rattle.plants.specs.Table.{plants_of}
+use Rattle.plants.proofs.Table.{made}
 use Rattle.ledger.specs.Ledger.{Ledger, allotted_in}
 use Rattle.statement.specs.Statement.{line, plant_line, plant_lines, total_line, statement_text}
 use Rattle.statement.specs.Writing.{fields_text, leading}
@@ -81,24 +82,36 @@ module _ (ps : List Plant) (al : List ℕ) (ac : List ℤ) where
   lines_none i h = ap (λ (ps : List Plant). plant_lines ps (drop (4 * i) al) (drop (2 * i) ac)) (drop_of_length-le ps h)
 
 -- only submarkets and numbers are shown
-lines-columns : (ss ns gs ls vs al : List ℕ) (ac : List ℤ) → plant_lines (plants_of ss ns gs ls vs) al ac ≡ plant_lines (plants_of ss ns [] [] []) al ac
-unfolding plant_lines plant_line plants_of
-lines-columns [] ns gs ls vs al ac = refl
-lines-columns (s ∷ ss) ns gs ls vs al ac =
-    ap (λ (l : List ℕ). plant_line (record { submarket = s; number = get_or ns 0 0; guarantee = 0; loss = 0; availability = 0 }) (take 4 al) (get_or ac 0 (pos 0)) (get_or ac 1 (pos 0)) ++ l)
-    (lines-columns ss (drop 1 ns) (drop 1 gs) (drop 1 ls) (drop 1 vs) (drop 4 al) (drop 2 ac))
+lines-shown : (ps qs : List Plant) (al : List ℕ) (ac : List ℤ) → map (λ (p : Plant). p.submarket) ps ≡ map (λ (p : Plant). p.submarket) qs
+    → map (λ (p : Plant). p.number) ps ≡ map (λ (p : Plant). p.number) qs → plant_lines ps al ac ≡ plant_lines qs al ac
+unfolding plant_lines plant_line
+lines-shown [] [] al ac e f = refl
+lines-shown [] (q ∷ qs) al ac e f = absurd (omega (arith, ap length e))
+lines-shown (p ∷ ps) [] al ac e f = absurd (omega (arith, ap length e))
+lines-shown (p ∷ ps) (q ∷ qs) al ac e f =
+    ap₂ ◌++◌
+    (ap₂ (λ (s n : ℕ). plant_line (record { submarket = s; number = n; guarantee = 0; loss = 0; availability = 0 }) (take 4 al) (get_or ac 0 (pos 0)) (get_or ac 1 (pos 0)))
+    (ap (λ (l : List ℕ). get_or l 0 0) e) (ap (λ (l : List ℕ). get_or l 0 0) f))
+    (lines-shown ps qs (drop 4 al) (drop 2 ac) (ap (drop 1) e) (ap (drop 1) f))
 
-length-columns : (ss ns gs ls vs : List ℕ) → length (plants_of ss ns gs ls vs) ≡ length (plants_of ss ns [] [] [])
+pub text-shown : (settled : ℕ) (ps qs : List Plant) (l : Ledger) → map (λ (p : Plant). p.submarket) ps ≡ map (λ (p : Plant). p.submarket) qs
+    → map (λ (p : Plant). p.number) ps ≡ map (λ (p : Plant). p.number) qs → statement_text settled ps l ≡ statement_text settled qs l
+unfolding statement_text
+text-shown settled ps qs l e f =
+    ap₂ (λ (a : List ℕ) (n : ℕ). a ++ total_line settled n (four (λ s. sum (allotted_in s l))))
+    (lines-shown ps qs l.allotted l.accounts e f)
+    (sym (length-map ps (λ (p : Plant). p.submarket)) ∙ (ap length e ∙ length-map qs (λ (p : Plant). p.submarket)))
+
+numbers-columns : (ss ns gs ls vs : List ℕ) → map (λ (p : Plant). p.number) (plants_of ss ns gs ls vs) ≡ map (λ (p : Plant). p.number) (plants_of ss ns [] [] [])
 unfolding plants_of
-length-columns [] ns gs ls vs = refl
-length-columns (s ∷ ss) ns gs ls vs = ap suc (length-columns ss (drop 1 ns) (drop 1 gs) (drop 1 ls) (drop 1 vs))
+numbers-columns [] ns gs ls vs = refl
+numbers-columns (s ∷ ss) ns gs ls vs = ap (λ (l : List ℕ). get_or ns 0 0 ∷ l) (numbers-columns ss (drop 1 ns) (drop 1 gs) (drop 1 ls) (drop 1 vs))
 
 pub text-columns : (settled : ℕ) (ss ns gs ls vs : List ℕ) (l : Ledger) → statement_text settled (plants_of ss ns gs ls vs) l ≡ statement_text settled (plants_of ss ns [] [] []) l
-unfolding statement_text
 text-columns settled ss ns gs ls vs l =
-    ap₂ (λ (a : List ℕ) (n : ℕ). a ++ total_line settled n (four (λ s. sum (allotted_in s l))))
-    (lines-columns ss ns gs ls vs l.allotted l.accounts)
-    (length-columns ss ns gs ls vs)
+    text-shown settled (plants_of ss ns gs ls vs) (plants_of ss ns [] [] []) l
+    (made.submarkets ss ns gs ls vs ∙ sym (made.submarkets ss ns [] [] []))
+    (numbers-columns ss ns gs ls vs)
 
 -- ---- lengths
 

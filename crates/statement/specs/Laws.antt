@@ -2,7 +2,7 @@
 use Rattle.std.specs.Prelude.{◌≡◌, true, List, [], map, ℕ, ◌*◌, ◌≤◌, length}
 use Rattle.lists.specs.Lists.{Within}
 use Rattle.plants.specs.declared.Plant.{Plant}
-use Rattle.hour.specs.Table.{plants_of}
+use Rattle.plants.specs.Table.{plants_of}
 use Rattle.ledger.specs.Ledger.{Ledger, in_bounds}
 use Rattle.statement.specs.Statement.{statement_text, room_for}
 use Rattle.statement.specs.Lengths.{statement_length}
@@ -27,5 +27,8 @@ pub record Promised : Type 0 where
   pub fits : (settled : ℕ) (plants : List Plant) (l : Ledger) → InLimits settled plants l → length (statement_text settled plants l) ≤ room_for (length plants)
   -- the length is worked from the figures
   pub sized : (settled : ℕ) (plants : List Plant) (l : Ledger) → length (statement_text settled plants l) ≡ statement_length settled plants l
-  -- of the plant table only submarkets and numbers are shown
+  -- of the plant table only submarkets and numbers are shown: tables that agree in them have one statement
+  pub shown : (settled : ℕ) (ps qs : List Plant) (l : Ledger) → map (λ (p : Plant). p.submarket) ps ≡ map (λ (p : Plant). p.submarket) qs
+      → map (λ (p : Plant). p.number) ps ≡ map (λ (p : Plant). p.number) qs → statement_text settled ps l ≡ statement_text settled qs l
+  -- ... so do those that two columns and any other three make
   pub columns : (settled : ℕ) (ss ns gs ls vs : List ℕ) (l : Ledger) → statement_text settled (plants_of ss ns gs ls vs) l ≡ statement_text settled (plants_of ss ns [] [] []) l

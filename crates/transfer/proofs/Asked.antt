@@ -6,11 +6,11 @@ use Prim.Native.Nat.{ℕ, zero, suc, min, ◌≤◌}
 use native.Mathlib.Omega.{arith}
 use lib.Dec.{eqb}
 use lib.ListN.{length}
-use borrow.Author.Tests.{leb-true, ne_eqb}
+use borrow.Author.Tests.{leb-true, le-leb, ne_eqb}
 use Rattle.std.specs.List.{list_all, zip}
 use Rattle.lists.specs.Lists.{sum, most, every, at_most}
 use Rattle.lists.specs.Columns.{rowwise}
-use Rattle.lists.proofs.Questions.{asked, both, sum-hours}
+use Rattle.lists.proofs.Questions.{asked, yes, all_yes, both, and_both, sum-hours}
 use Rattle.transfer.specs.Calls.{apart, transfer_number}
 
 pub record Transferable (left need : List ℕ) : Type 0 where
@@ -26,6 +26,11 @@ transferable left need e =
     let b = both _ _ a.1 in
     let c = both _ _ b.1 in
     record { left_hourly = a.0; need_hourly = b.0; enough = leb-true _ _ c.0; no_both = c.1 }
+
+pub is_transferable : (left need : List ℕ) → Transferable left need → 0 ≡ transfer_number left need
+unfolding transfer_number
+is_transferable left need t =
+    yes _ 23 [] 0 (and_both _ _ t.left_hourly (and_both _ _ t.need_hourly (and_both _ _ (le-leb (sum need) (sum left) t.enough) t.no_both))) all_yes
 
 -- the smaller of two is 0 where one of them is
 smaller_none : (x y : ℕ) → (eqb x 0 || eqb y 0) ≡ eqb (min x y) 0

@@ -1,21 +1,22 @@
--- `ledger::column_sum` meets its contract. Assumes nothing.
-use mathlib.Core.Path.{sym, ◌∙◌}
+-- `ledger::column_sum` meets its contract: what is summed, with what is left of the column, is the column's sum. Assumes nothing.
+use mathlib.Core.Path.{ap}
+use Prim.Native.Nat.{ℕ, ◌+◌}
 use native.Mathlib.Omega.{arith}
-use Rattle.std.proofs.lemmas.Iterator.Consumers.{sum_from_yields_List, fits_from_yields_list}
-use Rattle.lists.proofs.Rows.{column-within}
+use Rattle.lists.proofs.Loops.{adding, adding_more, adding_le, added}
+use Rattle.lists.proofs.Rows.{stride, stride_more, stride_none, column-within}
 use Rattle.ledger.specs.Ledger.{kwh_bound}
-use Rattle.ledger.proofs.Lists.{sum_is}
-use Rattle.ledger.proofs.Strides.{column_road}
 use Rattle.ledger.proofs.column_sum.Goals as goal
 
-pub sum-requires-clause-fits : goal.sum-requires-clause-fits
-sum-requires-clause-fits c =
-    let i = c.iter.ensures in let k = c.skip.ensures in let s = c.step_by.ensures in
-    let road = column_road c.args.width c.args.start c.args.figures.now s.source s.step_minus_one s.first_take k.source k.count i.rest in
-    fits_from_yields_list _ _ road (rw (← sum_is) (omega (arith, column-within c.args.width c.args.start c.args.figures.now kwh_bound _ c.requires.3 c.requires.2)))
+pub loop-figure-init : goal.loop-figure-init
+loop-figure-init c = rw (← stride) adding
+
+pub overflow_add-total : goal.overflow_add-total
+overflow_add-total c = omega (arith, c.in-Some.ensures.lookup.3.1 0, adding_le c.loop-figure.invariant (stride_more _ c.requires.0 _ _ 0 c.in-Some.ensures.lookup.3.0), column-within c.args.width c.args.start c.args.figures.now kwh_bound _ c.requires.3 c.requires.2)
+
+pub loop-figure-preserved : goal.loop-figure-preserved
+loop-figure-preserved c =
+    let more = stride_more _ c.requires.0 _ _ 0 c.in-Some.ensures.lookup.3.0 in
+    adding_more c.loop-figure.invariant more (ap (λ (x : ℕ). c.loop-figure.total + x) (c.in-Some.ensures.lookup.3.1 0))
 
 pub returns : goal.returns
-returns c =
-    let i = c.iter.ensures in let k = c.skip.ensures in let s = c.step_by.ensures in
-    let road = column_road c.args.width c.args.start c.args.figures.now s.source s.step_minus_one s.first_take k.source k.count i.rest in
-    sum_from_yields_List _ c.sum.result c.sum.ensures.ran road ∙ sym (sum_is _)
+returns c = added c.loop-figure.invariant (stride_none _ _ _ c.in_default.ensures.lookup.3)

@@ -5,9 +5,9 @@ use Rattle.month_file.proofs.Parts.{Feeding}
 use Rattle.month_file.proofs.feeding.feed.Given as goal
 
 abbrev pub invariant-loop-next : goal.invariant-loop-next
-invariant-loop-next l =
-    Feeding l.part l.initial.line (lent_lists l.initial.file) l.initial.file.state l.line (lent_lists l.file) l.file.state l.at
+invariant-loop-next g l =
+    Feeding l.part l.initial.line (lent_lists g.T.PlantTable.rows l.initial.file) l.initial.file.state l.line (lent_lists g.T.PlantTable.rows l.file) l.file.state l.at
     × SameLists l.initial.file l.file
 
 abbrev pub decreases-loop-next : goal.decreases-loop-next
-decreases-loop-next l = length l.part - l.at
+decreases-loop-next g l = length l.part - l.at

@@ -1,7 +1,0 @@
-use mathlib.Core.Path.{◌≡◌}
-use Prim.Native.Nat.{ℕ, ◌-◌, ◌<◌}
-use lib.ListN.{get_or}
-use Rattle.rows.proofs.Rows.deficits_into.Given as goal
-
-abbrev pub invariant-loop-i : goal.invariant-loop-i
-invariant-loop-i l = (k : ℕ) → k < l.i → get_or l.d k 0 ≡ get_or l.self.covered.now k 0 - get_or l.self.metered.now k 0

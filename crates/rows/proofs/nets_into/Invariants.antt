@@ -1,0 +1,8 @@
+use mathlib.Core.Path.{◌≡◌}
+use Prim.Native.Nat.{ℕ, ◌+◌, ◌<◌}
+use lib.ListN.{get_or}
+use lib.IntN.{pos, sub_ℕ}
+use Rattle.rows.proofs.nets_into.Given as goal
+
+abbrev pub invariant-loop-i : goal.invariant-loop-i
+invariant-loop-i l = (k : ℕ) → k < l.i → get_or l.nets k (pos 0) ≡ sub_ℕ (get_or l.metered k 0) (get_or l.covered k 0 + get_or l.rights k 0)

@@ -38,7 +38,7 @@ FACT = re.compile(
 # fits the code.
 NO_FACT = re.compile(
     r"(expected|has) type `\(*([^` ]*\.)?(ℕ|ℤ|Bool|List|Option|Result|RefT|Array|Type|Month|Settled|Balanced|Ended|Stated|Sized|Worked|Balance|Refusal|MonthFile|FileStage|Plant|Blocks|ReadLine|Start|Table"
-    r"|Weights|Rows|LentFile|FileView|LedgerView|HourView|Long|Short|Modulation|Kept|KeptLists)[ `]"
+    r"|Weights|Rows|LentFile|LentPlants|FileView|LedgerView|HourView|Long|Short|Modulation|Kept|KeptLists)[ `]"
     r"|(expected|has) type `\(*(goal|[^` ]*\.Goals)\.(?!the-)"
 )
 NO_NAME = re.compile(r"that can be named from here|has no field|is not in scope(?! here, so what is shown)|no module is found")

@@ -30,8 +30,10 @@ BARE = re.compile(
     r"(ghost |pub )?use |(pub )?mod |(&mut |&)?\w+(\.\w+)*(\[[^]]*\])?,$|[\w-]+\)*$|(?P<field>\w+) = \w+\.(?P=field);$"
     r"|(abbrev |pub )*\S+ :( goal\.\S+)?$|goal\.\S+$|\S+ (g )?(c|_) = (refl|tt|search [\w-]+|omega arith|c(\.[\w-]+)+)$"
 )
-# What document 01 names and nothing in this repository calls: it is for callers in Rattle.
+# What document 01 names, or an earlier landing promised, and nothing in this repository calls: it is for callers in Rattle.
 PUBLIC = {
+    ("file_calls", "feed_list"): "for a plant table in a list of any length: the program keeps an array, C columns",
+    ("file_calls", "finish_list"): "likewise",
     ("lines", "field"): "hands back a part of the line, which cannot cross to C",
     ("transfer", "column_sum"): "document 01 has the table 'summed by rows and columns'; the rules sum rows alone",
 }

@@ -4,6 +4,7 @@
 ghost use Rattle.std.specs.Prelude.{◌≡◌, ◌≤◌, length, take};
 ghost use Rattle.refusals.specs.Numbers.{number};
 ghost use Rattle.questions.specs.Questions.{rows_number};
+ghost use Rattle.records.specs.Tables.{SameTable};
 ghost use Rattle.file_lines.specs.State.{kept, Lent, Gathering, Counted, Settling, Valid};
 ghost use Rattle.file_lines.specs.Lists.{viewed_lists};
 ghost use Rattle.month_file.specs.Run.{place};
@@ -20,11 +21,13 @@ use month_file::feeding::feed;
 use month_file::finishing::finish;
 use plants::Plant;
 use questions::{ask_row, periods_in_limits};
-use records::tables::PlantTable;
+use records::tables::{PlantRows, PlantTable};
 use refusals::{Refusal, ask, told};
 
+pub mod listed;
+
 // Are the lists of what was read long enough for every month?
-fn are_lent<T: PlantTable>(lists: FileView<'_, T>) -> bool
+fn are_lent<T: PlantRows>(lists: FileView<'_, T>) -> bool
     ensures { Decides (Lent (viewed_lists T.rows lists.entry)) result }
 {
     PLANTS <= lists.plants.count()
@@ -35,7 +38,7 @@ fn are_lent<T: PlantTable>(lists: FileView<'_, T>) -> bool
 
 // ... and the list of the line that has begun? State, line and lists are no struct: C lends them apart, and `finish` reads the lists with the state after
 // the line.
-fn is_room<T: PlantTable>(file: MonthFile, line: &[u8], lists: FileView<'_, T>) -> bool
+fn is_room<T: PlantRows>(file: MonthFile, line: &[u8], lists: FileView<'_, T>) -> bool
     ensures { Decides (FileRoom (place file (viewed_lists T.rows lists.entry) line.now)) result }
 {
     LONGEST <= line.len() && are_lent(lists)
@@ -65,7 +68,7 @@ fn is_counted(month: Month, count: u64) -> bool
 }
 
 // 5 to 8 of the first rows of a table, read one by one.
-fn ask_table<T: PlantTable>(plants: &T, rows: usize) -> Result<(), Refusal>
+fn ask_table<T: PlantRows>(plants: &T, rows: usize) -> Result<(), Refusal>
     requires { rows ≤ length (T.rows plants.now) }
     ensures { number result ≡ rows_number 0 0 (take rows (T.rows plants.now)) }
 {
@@ -79,7 +82,7 @@ fn ask_table<T: PlantTable>(plants: &T, rows: usize) -> Result<(), Refusal>
 }
 
 // ... 5 to 8 passed by the table, and the ledger in its bounds?
-fn is_settling<T: PlantTable>(file: MonthFile, lists: FileView<'_, T>) -> bool
+fn is_settling<T: PlantRows>(file: MonthFile, lists: FileView<'_, T>) -> bool
     requires { Lent (viewed_lists T.rows lists) }
     ensures { Decides (Settling file (viewed_lists T.rows lists.entry)) result }
 {
@@ -91,7 +94,7 @@ fn is_settling<T: PlantTable>(file: MonthFile, lists: FileView<'_, T>) -> bool
 }
 
 // Do state and lists fit together, as after `fresh` and every feed?
-fn is_valid<T: PlantTable>(file: MonthFile, lists: FileView<'_, T>) -> bool
+fn is_valid<T: PlantRows>(file: MonthFile, lists: FileView<'_, T>) -> bool
     requires { Lent (viewed_lists T.rows lists) }
     ensures { Decides (Valid file (viewed_lists T.rows lists.entry)) result }
 {
@@ -107,7 +110,7 @@ fn is_valid<T: PlantTable>(file: MonthFile, lists: FileView<'_, T>) -> bool
 }
 
 // 30 and 31 of a feed.
-fn ask_file<T: PlantTable>(
+fn ask_file<T: PlantRows>(
     file: MonthFile,
     line: &[u8],
     lists: FileView<'_, T>,
@@ -129,7 +132,8 @@ pub fn feed_any<T: PlantTable>(
     allotted: &mut [u64],
     accounts: &mut [i64],
 ) -> Result<(), Refusal>
-    ensures { FedAny (place file.old (kept (T.rows plants.old) profile.old allotted.old accounts.old) line.old) part.now (number result) (place file.new (kept (T.rows plants.new) profile.new allotted.new accounts.new) line.new) }
+    ensures fed { FedAny (place file.old (kept (T.rows plants.old) profile.old allotted.old accounts.old) line.old) part.now (number result) (place file.new (kept (T.rows plants.new) profile.new allotted.new accounts.new) line.new) }
+    ensures same { SameTable T.rows T.lender plants.old plants.new }
 {
     let lists = FileView {
         plants,
@@ -151,7 +155,7 @@ pub fn feed_any<T: PlantTable>(
 }
 
 // 30, 22 and 31 of a finish.
-fn ask_finish<T: PlantTable>(
+fn ask_finish<T: PlantRows>(
     file: MonthFile,
     line: &[u8],
     lists: FileView<'_, T>,
@@ -189,7 +193,7 @@ impl From<Result<usize, Refusal>> for FinishAnswer {
 }
 
 // The input has ended, with a state and lists that may hold anything. Answers how many bytes were written.
-pub fn finish_any<T: PlantTable>(
+pub fn finish_any<T: PlantRows>(
     file: MonthFile,
     line: &[u8],
     lists: FileView<'_, T>,

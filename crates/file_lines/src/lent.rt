@@ -4,7 +4,7 @@ ghost use Rattle.file_lines.specs.State.{kept, Valid};
 
 use crate::MonthFile;
 use ledger::{ACCOUNTS, ALLOTTED, LedgerView};
-use records::tables::PlantTable;
+use records::tables::{PlantRows, PlantTable};
 use std::alloc::AllocError;
 
 // The lists, read. They may hold anything.
@@ -30,7 +30,7 @@ impl<T> Clone for FileView<'_, T> {
 
 impl<T> Copy for FileView<'_, T> {}
 
-impl<'a, T: PlantTable> FileView<'a, T> {
+impl<'a, T: PlantRows> FileView<'a, T> {
     ghost use Rattle.ledger.specs.Ledger.{viewed};
     ghost use Rattle.file_lines.specs.State.{ledger_of};
     ghost use Rattle.file_lines.specs.Lists.{viewed_lists};

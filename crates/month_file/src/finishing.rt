@@ -18,7 +18,7 @@ use lines::reading::read_line;
 use lists::PLANTS;
 use month::stating::write_rows;
 use plants::Plant;
-use records::tables::PlantTable;
+use records::tables::PlantRows;
 use refusals::Refusal;
 use statement::writing::write_leading;
 
@@ -65,7 +65,7 @@ fn at_end(file: MonthFile, line: &[u8]) -> MonthFile
 // Every period is settled: the month is closed, which is not refused here, and its statement written. The text's room is asked: a type for it would be
 // made for one call of `finish` alone.
 #[tactic(auto, unfolding(statement::specs::Statement::room_for))]
-fn write_month<T: PlantTable>(file: MonthFile, lists: FileView<'_, T>, text: &mut [u8]) -> usize
+fn write_month<T: PlantRows>(file: MonthFile, lists: FileView<'_, T>, text: &mut [u8]) -> usize
     requires { Finishable file (viewed_lists T.rows lists) × (room_for 512 ≤ length text.old) }
     ensures { Fills (printed file.count (progress_of file (viewed_lists T.rows lists.entry))) text.old result text.new }
 {
@@ -84,7 +84,7 @@ fn write_month<T: PlantTable>(file: MonthFile, lists: FileView<'_, T>, text: &mu
 // The input has ended: what is printed stands at the front of the text, and its length is answered. The lists are read, as C lends them for this call,
 // so that they fit the state is asked here: to make a file of them they would have to be lent `&mut`.
 #[tactic(auto, unfolding(statement::specs::Statement::room_for))]
-pub fn finish<T: PlantTable>(
+pub fn finish<T: PlantRows>(
     file: MonthFile,
     line: &[u8],
     lists: FileView<'_, T>,

@@ -7,7 +7,7 @@ ghost use Rattle.records.specs.Records.{put_row, row_at, table_places};
 use lists::PLANTS;
 use plants::Plant;
 
-mod slices;
+pub mod slices;
 pub mod tables;
 
 // Where the columns begin, after the submarkets; and the places of all five. The C interface needs them: it lends the table as one list.

@@ -5,5 +5,5 @@ use Rattle.file_calls.proofs.ask_table.Given as goal
 
 abbrev pub invariant-loop-i : goal.invariant-loop-i
 invariant-loop-i g l =
-    let all = take l.rows (g.T.PlantTable.rows l.plants) in
+    let all = take l.rows (g.T.PlantRows.rows l.plants) in
     rows_number 0 0 all ≡ rows_number l.before.submarket l.before.number (drop l.i all)

@@ -9,5 +9,5 @@ use Rattle.settle_month.proofs.take_input.Given as goal
 abbrev pub invariant-loop : goal.invariant-loop
 invariant-loop g l =
     let o = l.initial in
-    (Taken (g.R.Read.remaining o.input) (g.R.Read.remaining l.input) (length o.part) false (place o.file.state (lent_lists g.T.PlantTable.rows o.file) o.line) (place l.file.state (lent_lists g.T.PlantTable.rows l.file) l.line))
+    (Taken (g.R.Read.remaining o.input) (g.R.Read.remaining l.input) (length o.part) false (place o.file.state (lent_lists g.T.PlantRows.rows o.file) o.line) (place l.file.state (lent_lists g.T.PlantRows.rows l.file) l.line))
     × SameLists o.file l.file

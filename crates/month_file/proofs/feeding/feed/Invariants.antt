@@ -6,7 +6,7 @@ use Rattle.month_file.proofs.feeding.feed.Given as goal
 
 abbrev pub invariant-loop-next : goal.invariant-loop-next
 invariant-loop-next g l =
-    Feeding l.part l.initial.line (lent_lists g.T.PlantTable.rows l.initial.file) l.initial.file.state l.line (lent_lists g.T.PlantTable.rows l.file) l.file.state l.at
+    Feeding l.part l.initial.line (lent_lists g.T.PlantRows.rows l.initial.file) l.initial.file.state l.line (lent_lists g.T.PlantRows.rows l.file) l.file.state l.at
     × SameLists l.initial.file l.file
 
 abbrev pub decreases-loop-next : goal.decreases-loop-next

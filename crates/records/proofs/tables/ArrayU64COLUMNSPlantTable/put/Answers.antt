@@ -6,5 +6,5 @@ use Rattle.records.proofs.tables.ArrayU64COLUMNSPlantTable.put.Goals as goal
 pub put_row-requires : goal.put_row-requires
 put_row-requires c = (omega (arith, c.told-self), omega (arith, c.requires, length-whole c.args.self.now c.told-self))
 
-pub returns : goal.returns
-returns c = put_whole c.args.self.now c.told-self c.args.i c.args.plant c.requires c.put_row.ensures
+pub returns-clause-placed : goal.returns-clause-placed
+returns-clause-placed c = put_whole c.args.self.now c.told-self c.args.i c.args.plant c.requires c.put_row.ensures

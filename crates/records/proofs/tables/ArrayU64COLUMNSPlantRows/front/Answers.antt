@@ -3,7 +3,7 @@ use Rattle.std.proofs.Common.{arith}
 use Rattle.lists.proofs.Loops.{tabling_more, tabled}
 use Rattle.records.specs.Records.{row_at}
 use Rattle.records.proofs.Whole.{length-whole, front_whole}
-use Rattle.records.proofs.tables.ArrayU64COLUMNSPlantTable.front.Goals as goal
+use Rattle.records.proofs.tables.ArrayU64COLUMNSPlantRows.front.Goals as goal
 
 pub row_at-requires : goal.row_at-requires
 row_at-requires c = (omega (arith, c.told-self), omega (arith, c.requires.0, c.loop-i-test.true, length-whole c.args.self.now c.told-self))

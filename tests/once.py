@@ -2,9 +2,10 @@
 
 Used is what is reached by name from what readers and the prover begin with: a contract, an answer to a goal of a function or what a
 `#[tactic(..)]` names, a theorem that docs/RULES.md names; and of the code an exported function, `main`, or a call of document 01 for callers
-in Rattle. A name that a `use` line takes is used where its file names it. Twice is a run of six lines that stands in two places, a law that
-states what another states but for the names of its variables, a law that only hands on another, and a record or struct with another's fields.
-And no function's proof walks the code by hand. The last line is 'N passed, M failed'.
+in Rattle. A test makes nothing used, but for what stands in its own file, `tests.rt`. A name that a `use` line takes is used where its file
+names it. Twice is a run of six lines that stands in two places, a law that states what another states but for the names of its variables, a
+law that only hands on another, and a record or struct with another's fields. And no function's proof walks the code by hand. The last line is
+'N passed, M failed'.
 
 Names are looked up as words: a lemma that has the name of a local variable of its file passes, and so does a function that has the name of a
 method which any crate calls. `.into()` and `from` use each `From` whose two types are at hand there: the function names them, or has them by a field or a call. Whether fields, constructors, structs and constants are used is not held, nor copies of code or proofs with other
@@ -35,6 +36,8 @@ PUBLIC = {
     ("file_calls", "feed_list"): "for a plant table in a list of any length: the program keeps an array, C columns",
     ("file_calls", "finish_list"): "likewise",
     ("lines", "field"): "hands back a part of the line, which cannot cross to C",
+    ("records", "plants_of"): "the rows of C's columns as a list: a month file reads them one by one, where they lie",
+    ("records", "put_plants"): "likewise, written back",
     ("transfer", "column_sum"): "document 01 has the table 'summed by rows and columns'; the rules sum rows alone",
 }
 
@@ -204,7 +207,7 @@ def laws():
     roots = list(named())
     for path, source in sources().items():
         if path.suffix == ".rt":
-            roots += [(path, ""), *source.asked]
+            roots += [(path, ""), *source.asked] if path.name != "tests.rt" else []
         elif path.name == "Proof.antt":
             roots.append((path, source.last))
         else:
@@ -235,6 +238,9 @@ def functions():
         crate = crate_of(path)
         uses = re.findall(r"^(?:pub )?use (\w+)::(?:\w+::)*(?:(\w+)|{([^}]*)});", path.read_text(), re.M)
         used = {name: of for of, one, many in uses for name in ([one] if one else re.findall(r"\w+", many))}
+        if path.name == "tests.rt":
+            yield from tested(path)
+            continue
         for name, exported, line, lines in functions_of(path):
             one = (crate, made(path, line) if name == "from" else name)
             at.setdefault(one, place(path, line))
@@ -250,6 +256,16 @@ def functions():
     for one in PUBLIC:
         yield one in calls, f"no function {one[1]} in {one[0]}, which this script lists as a public call"
         yield one not in others, f"{one[1]} of {one[0]} is called, so this script need not list it"
+
+
+def tested(path):
+    """Every function of a file of tests is a test, or a test calls it."""
+    text = path.read_text().splitlines()
+    calls = {name: set(re.findall(r"(?<!::)\b(\w+)\(", "\n".join(lines[1:]))) for name, _, _, lines in functions_of(path)}
+    tests = {name for name, _, line, _ in functions_of(path) if text[line - 2].strip() == "#[test]"}
+    seen = reached(tests, lambda name: calls[name] & calls.keys())
+    for name, _, line, _ in functions_of(path):
+        yield name in seen, f"{place(path, line)}: no test calls {name}"
 
 
 def made(path, line):

@@ -11,10 +11,11 @@ use lib.Dec.{ltb}
 use lib.IntN.{ℤ}
 use lib.ListN.{length, take, drop}
 use lib.Seq.{length-take-le}
-use Rattle.records.specs.Records.{rows_of, table_rows, table_places}
+use Rattle.plants.specs.declared.Plant.{Plant}
+use Rattle.records.specs.Records.{put_rows, rows_of, table_rows, table_places}
 use Rattle.records.proofs.Rows as rows
 use Rattle.records.proofs.Rows.{length-rows}
-use Rattle.records.proofs.Whole.{places, whole}
+use Rattle.records.proofs.Whole.{places, whole, length-whole}
 use Rattle.records.proofs.Places.{rows_joined, rows_taken, written_anew, unwritten}
 use Rattle.file_lines.specs.declared.FileStage.{FileStage}
 use Rattle.file_lines.specs.declared.FileStage.TheVariants.{First, Gathering, Metering, Refused}
@@ -103,37 +104,26 @@ fed_short {columns = columns} few e =
       stays = λ z _. absurd (omega (arith, z, e));
     }
 
--- The table is the front of the columns; it comes back as d, and what lies behind it stays
-module _ (k : KeptFile) (columns profile allotted line part : List ℕ) (accounts : List ℤ) (long : table_places ≤ length columns) (d : List ℕ) where
+-- the rows of the columns at the front of a longer list
+front_rows : (columns : List ℕ) → table_places ≤ length columns → {table : List ℕ} → table ≡ take table_places columns → table_rows table ≡ rows_of 512 columns
+front_rows columns long {table} q =
+    whole table (ap length q ∙ length-take-le table_places columns long) ∙ (ap (rows_of 512) q ∙ rows_taken columns long)
+
+module _ (k : KeptFile) (columns profile allotted line part : List ℕ) (accounts : List ℤ) (long : table_places ≤ length columns) where
   abbrev lists : KeptLists
   lists = kept_lists columns profile allotted accounts
 
-  abbrev columns₁ : List ℕ
-  columns₁ = d ++ drop table_places columns
-
-  module _ {f g : MonthFile} {table profile₁ allotted₁ line₁ : List ℕ} {accounts₁ : List ℤ} {n : ℕ} (p : f ≡ file_of k) (r : table ≡ take table_places columns)
-      (h : FedAny (place f (kept (table_rows table) profile allotted accounts) line) part n (place g (kept (table_rows d) profile₁ allotted₁ accounts₁) line₁)) where
-    lent : table_rows table ≡ rows_of 512 columns
-    lent = whole table (ap length r ∙ length-take-le table_places columns long) ∙ (ap (rows_of 512) r ∙ rows_taken columns long)
-
-    -- the table that comes back is a whole one too
-    many : length d ≡ table_places
-    many = places d (by_cases (ℕ_discrete n 0) (λ z. omega (arith, (h.taken z).valid.lent.plants))
-        (λ ne. let e : length (table_rows d) ≡ length (table_rows table) = ap (λ (a : Place). length a.lists.plants) (h.refused ne) in omega (arith, e, ap length lent, length-rows 512 columns)))
-
-    held : rows_of 512 columns₁ ≡ rows_of 512 d
-    held = rows_joined d (drop table_places columns) many
-
-    as_meant : FedAny (place (file_of k) (meant lists) line) part n (place g (kept (rows_of 512 d) profile₁ allotted₁ accounts₁) line₁)
+  module _ {f g : MonthFile} {ps qs : List Plant} {profile₁ allotted₁ line₁ : List ℕ} {accounts₁ : List ℤ} {n : ℕ} (p : f ≡ file_of k) (r : ps ≡ rows_of 512 columns)
+      (h : FedAny (place f (kept ps profile allotted accounts) line) part n (place g (kept qs profile₁ allotted₁ accounts₁) line₁)) where
+    as_meant : FedAny (place (file_of k) (meant lists) line) part n (place g (kept qs profile₁ allotted₁ accounts₁) line₁)
     unfolding meant
-    as_meant = rw (← p, ← lent, ← whole d many) h
+    as_meant = rw (← p, ← r) h
 
-    pub fed_refused : {m : ℕ} → m ≡ n → (n ≡ 0 → ⊥) → FileFed k lists line part (record { number = m; file = k }) (kept_lists columns₁ profile₁ allotted₁ accounts₁) line₁
+    pub fed_refused : {m : ℕ} → m ≡ n → (n ≡ 0 → ⊥) → FileFed k lists line part (record { number = m; file = k }) (kept_lists columns profile₁ allotted₁ accounts₁) line₁
     unfolding meant
     fed_refused t ne =
         let e = as_meant.refused ne in
-        let listed : kept_lists columns₁ profile₁ allotted₁ accounts₁ ≡ lists =
-        (λ x. kept_lists (unwritten columns d long many (ap (λ (a : Place). a.lists.plants) e) x) ((ap (λ (a : Place). a.lists.profile) e) x) ((ap (λ (a : Place). a.lists.allotted) e) x) ((ap (λ (a : Place). a.lists.accounts) e) x)) in
+        let listed : kept_lists columns profile₁ allotted₁ accounts₁ ≡ lists = ap (λ (a : Place). kept_lists columns a.lists.profile a.lists.allotted a.lists.accounts) e in
         let lined : line₁ ≡ line = ap (λ (a : Place). a.line) e in
         rw t
         (record {
@@ -142,15 +132,15 @@ module _ (k : KeptFile) (columns profile allotted line part : List ℕ) (account
               subst (λ (b : Place). FedAny (place (file_of k) (meant lists) line) part n b)
               (e ∙ (λ x. place (file_of k) (meant (sym listed x)) (sym lined x)))
               as_meant;
-          columns = written_anew columns d long many;
+          columns = sym (rows.columns.back columns);
           same = λ _. (refl, listed, lined);
           stays = λ z _. absurd (ne z);
         })
 
-    module _ (z : n ≡ 0) (lined : length line₁ ≡ length line) where
+    module _ (z : n ≡ 0) (many : length qs ≡ length ps) (lined : length line₁ ≡ length line) where
       -- what is handed back stands for the state after the part
       state_after : (b : Bool) → ltb 2 k.stage ≡ b
-          → FedAny (place (file_of k) (meant lists) line) part n (place (file_of (cond b (kept_at k.stage (file_of k)) (kept_file_of g))) (kept (rows_of 512 d) profile₁ allotted₁ accounts₁) line₁)
+          → FedAny (place (file_of k) (meant lists) line) part n (place (file_of (cond b (kept_at k.stage (file_of k)) (kept_file_of g))) (kept qs profile₁ allotted₁ accounts₁) line₁)
       unfolding file_of
       state_after false t = rw (files.back g) as_meant
       state_after true t =
@@ -162,25 +152,55 @@ module _ (k : KeptFile) (columns profile allotted line part : List ℕ) (account
             taken = λ _. refused_stays (read_refused k.stage (ltb-true 2 k.stage t)) good.1 good.0 lined (as_meant.taken z);
           })
 
-      pub fed_taken : {file : KeptFile} → file ≡ cond (ltb 2 k.stage) (kept_at k.stage (file_of k)) (kept_file_of g)
+      pub fed_taken : {columns₁ : List ℕ} → columns₁ ≡ put_rows columns 0 qs → {file : KeptFile} → file ≡ cond (ltb 2 k.stage) (kept_at k.stage (file_of k)) (kept_file_of g)
           → FileFed k lists line part (record { number = n; file = file }) (kept_lists columns₁ profile₁ allotted₁ accounts₁) line₁
       unfolding meant
-      fed_taken {file} e =
+      fed_taken {columns₁} w {file} e =
+          let held : rows_of 512 columns₁ ≡ qs = ap (rows_of 512) w ∙ rows.columns.read columns qs long (many ∙ ap length r ∙ length-rows 512 columns) in
           record {
             short = λ few. absurd (omega (arith, long, few));
             fed = λ _. rw (e, held) (state_after (ltb 2 k.stage) refl);
-            columns = written_anew columns d long many;
+            columns = w ∙ ap (put_rows columns 0) (sym held);
             same = λ ne. absurd (ne z);
             stays = λ _ s. e ∙ ap (λ (b : Bool). cond b (kept_at k.stage (file_of k)) (kept_file_of g)) (lt-ltb 2 k.stage s);
           }
 
+-- The table is the front of the columns; it comes back as d, and what lies behind it stays
+module _ (k : KeptFile) (columns profile allotted line part : List ℕ) (accounts : List ℤ) (long : table_places ≤ length columns) (d : List ℕ) where
+  abbrev columns₁ : List ℕ
+  columns₁ = d ++ drop table_places columns
+
+  module _ {f g : MonthFile} {table profile₁ allotted₁ line₁ : List ℕ} {accounts₁ : List ℤ} {n : ℕ} (p : f ≡ file_of k) (r : table ≡ take table_places columns)
+      (h : FedAny (place f (kept (table_rows table) profile allotted accounts) line) part n (place g (kept (table_rows d) profile₁ allotted₁ accounts₁) line₁)) where
+    lent : table_rows table ≡ rows_of 512 columns
+    lent = front_rows columns long r
+
+    -- the table that comes back is a whole one too
+    many : length d ≡ table_places
+    many = places d (by_cases (ℕ_discrete n 0) (λ z. omega (arith, (h.taken z).valid.lent.plants))
+        (λ ne. let e : length (table_rows d) ≡ length (table_rows table) = ap (λ (a : Place). length a.lists.plants) (h.refused ne) in omega (arith, e, ap length lent, length-rows 512 columns)))
+
+    pub front_refused : {m : ℕ} → m ≡ n → (n ≡ 0 → ⊥) → FileFed k (kept_lists columns profile allotted accounts) line part (record { number = m; file = k }) (kept_lists columns₁ profile₁ allotted₁ accounts₁) line₁
+    front_refused t ne =
+        let back : rows_of 512 d ≡ rows_of 512 columns = sym (whole d many) ∙ (ap (λ (a : Place). a.lists.plants) (h.refused ne) ∙ lent) in
+        rw (unwritten columns d long many back) (fed_refused k columns profile allotted line part accounts long p lent h t ne)
+
+    pub front_taken : n ≡ 0 → length line₁ ≡ length line → {file : KeptFile} → file ≡ cond (ltb 2 k.stage) (kept_at k.stage (file_of k)) (kept_file_of g)
+        → FileFed k (kept_lists columns profile allotted accounts) line part (record { number = n; file = file }) (kept_lists columns₁ profile₁ allotted₁ accounts₁) line₁
+    front_taken z lined e =
+        let held : rows_of 512 columns₁ ≡ table_rows d = rows_joined d (drop table_places columns) many ∙ sym (whole d many) in
+        fed_taken k columns profile allotted line part accounts long p lent h z (omega (arith, length-whole d many, ap length lent, length-rows 512 columns)) lined
+        (written_anew columns d long many ∙ ap (put_rows columns 0) held) e
+
 -- ---- finish
 
-pub finished_long : {k : KeptFile} {columns profile allotted line text after table : List ℕ} {accounts : List ℤ} {f : MonthFile} {r x : FinishAnswer}
+pub finished_long : {k : KeptFile} {columns profile allotted line text after : List ℕ} {accounts : List ℤ} {f : MonthFile} {ps : List Plant} {r x : FinishAnswer}
+    → table_places ≤ length columns → f ≡ file_of k → ps ≡ rows_of 512 columns → x ≡ r
+    → FinishedAny (place f (kept ps profile allotted accounts) line) text r after → FileFinished k (kept_lists columns profile allotted accounts) line text x after
+unfolding meant
+finished_long long p q e h = record { short = λ few. absurd (omega (arith, few, long)); finished = λ _. rw (e, ← p, ← q) h }
+
+pub front_finished : {k : KeptFile} {columns profile allotted line text after table : List ℕ} {accounts : List ℤ} {f : MonthFile} {r x : FinishAnswer}
     → table_places ≤ length columns → f ≡ file_of k → table ≡ take table_places columns → x ≡ r
     → FinishedAny (place f (kept (table_rows table) profile allotted accounts) line) text r after → FileFinished k (kept_lists columns profile allotted accounts) line text x after
-unfolding meant
-finished_long {columns = columns} {table = table} long p q e h =
-    let lent : table_rows table ≡ rows_of 512 columns =
-    whole table (ap length q ∙ length-take-le table_places columns long) ∙ (ap (rows_of 512) q ∙ rows_taken columns long) in
-    record { short = λ few. absurd (omega (arith, few, long)); finished = λ _. rw (e, ← p, ← lent) h }
+front_finished {columns = columns} long p q e h = finished_long long p (front_rows columns long q) e h

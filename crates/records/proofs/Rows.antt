@@ -6,10 +6,11 @@ use Prim.Native.Nat.{ℕ, zero, suc, ◌+◌, ◌*◌, ◌<◌, ◌≤◌}
 use native.Mathlib.Nat.{add-zero, zero-add}
 use native.Mathlib.Decide.{ℕ_discrete}
 use native.Mathlib.Omega.{arith}
-use lib.ListN.{length, get_or, take, drop, set, length-set, length-take, length-drop}
+use lib.ListN.{length, get_or, take, drop, set, length-set, length-take, length-drop, drop_of_length-le}
 use lib.Seq.{get_or-set_same, get_or-set_other, ext_get_or, length-take-le, get_or-take}
 use Rattle.std.proofs.lemmas.List.{set-get_or, take-append-le, take_all}
 use Rattle.lists.specs.Lists.{table, table_from}
+use Rattle.lists.proofs.Loops.{drop_more}
 use Rattle.lists.proofs.Parts.{part_at}
 use Rattle.lists.proofs.Sums.{length-table, get_or-table}
 use Rattle.plants.specs.declared.Plant.{Plant}
@@ -23,6 +24,16 @@ use Rattle.records.specs.Laws.{Columns}
 pub length-put_row : (c : List ℕ) (i : ℕ) (p : Plant) → length (put_row c i p) ≡ length c
 unfolding put_row
 length-put_row c i p = simp length-set
+
+-- a turn of the writing of rows, and its end
+pub put_more : (ps : List Plant) (i : ℕ) (c : List ℕ) {d : List ℕ} → i < length ps → d ≡ put_row c i (get_or ps i none)
+    → put_rows d (i + 1) (drop (i + 1) ps) ≡ put_rows c i (drop i ps)
+unfolding put_rows
+put_more ps i c l e = rw (e, drop_more ps i none l)
+
+pub put_all : (ps : List Plant) (i : ℕ) (c : List ℕ) → length ps ≤ i → c ≡ put_rows c i (drop i ps)
+unfolding put_rows
+put_all ps i c l = rw (drop_of_length-le ps {i = i} l)
 
 -- ---- one row
 

@@ -2,13 +2,15 @@
 #![tactic(auto, unfolding(crate::specs::Records::put_row, crate::specs::Records::row_at))]
 
 ghost use Rattle.std.specs.Prelude.{◌≡◌, ◌<◌, ◌≤◌, length};
-ghost use Rattle.records.specs.Records.{put_row, row_at, table_places};
+ghost use Rattle.records.specs.Records.{put_row, put_rows, row_at, rows_of, table_places};
 
 use lists::PLANTS;
 use plants::Plant;
 
 pub mod slices;
 pub mod tables;
+#[cfg(test)]
+mod tests;
 
 // Where the columns begin, after the submarkets; and the places of all five. The C interface needs them: it lends the table as one list.
 const NUMBERS: usize = PLANTS;
@@ -44,5 +46,27 @@ pub fn row_at(columns: &[u64], i: usize) -> Plant
         guarantee: columns[GUARANTEES + i],
         loss: columns[LOSSES + i],
         availability: columns[AVAILABILITIES + i],
+    }
+}
+
+// The rows that the columns hold, copied.
+pub fn plants_of(columns: &[u64]) -> [Plant; PLANTS]
+    requires { table_places ≤ length columns.now }
+    ensures { result ≡ rows_of 512 columns.now }
+{
+    let mut plants = [Plant::default(); PLANTS];
+    for (i, plant) in plants.iter_mut().enumerate() {
+        *plant = row_at(columns, i);
+    }
+    plants
+}
+
+// Writes the rows to the columns, from the first place on.
+pub fn put_plants(columns: &mut [u64], plants: &[Plant])
+    requires { (table_places ≤ length columns.old) × (length plants.now ≤ 512) }
+    ensures { columns.new ≡ put_rows columns.old 0 plants.now }
+{
+    for (i, plant) in plants.iter().enumerate() {
+        put_row(columns, i, *plant);
     }
 }

@@ -104,11 +104,12 @@ fed_short {columns = columns} few e =
       stays = λ z _. absurd (omega (arith, z, e));
     }
 
--- the rows of the columns at the front of a longer list
+-- the table at the front of the columns has their rows
 front_rows : (columns : List ℕ) → table_places ≤ length columns → {table : List ℕ} → table ≡ take table_places columns → table_rows table ≡ rows_of 512 columns
 front_rows columns long {table} q =
     whole table (ap length q ∙ length-take-le table_places columns long) ∙ (ap (rows_of 512) q ∙ rows_taken columns long)
 
+-- The rows are read from the columns, fed, and written back
 module _ (k : KeptFile) (columns profile allotted line part : List ℕ) (accounts : List ℤ) (long : table_places ≤ length columns) where
   abbrev lists : KeptLists
   lists = kept_lists columns profile allotted accounts
